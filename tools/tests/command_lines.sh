@@ -65,6 +65,33 @@ for page in README.md CONTRIBUTING.md docs/*.md; do
     replay show_plainly <"$scratch/page"
 done
 
+# tools/step by hand, here by a pipe: it shows the item at each stop, and its variables.
+step_by_hand() {
+    is_wanted "tools/step" || return
+    run "printf 'break main 6\\ngo\\nstep\\nbreak f\\nquit\\n' | tools/step examples/guess.bril -- 2"
+    show
+    cat >"$scratch/expected" <<'END'
+stop @main 6
+    guard more .done;
+    n: 2
+    one: 1
+    i: 1
+    more: true
+stop @main 7
+    commit;
+    n: 2
+    one: 1
+    i: 1
+break F N, clear F N, go, step, show, list or quit
+END
+    ends "tools/step" "$scratch/expected" "$scratch/came"
+}
+step_by_hand
+
+# The files of `elf` are read by other tools, where they are installed: the headers by readelf, and the words behind them by
+# objdump, which writes what `list` writes but for blanks, the base of numbers and where a jump leads.
+. tools/tests/other_readers.sh
+
 # Output that can't be written is told by status 74, and not by a signal: on a full device and on one that fills in the middle,
 # after all is printed, after a fault and after spent steps, and by a reader that closes the pipe at once or in the middle.
 printf '! cannot write\n= 74\n' >"$scratch/cannot_write"

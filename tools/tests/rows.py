@@ -20,7 +20,7 @@ ROOT = os.path.dirname(os.path.dirname(os.path.dirname(os.path.abspath(__file__)
 ROWS = os.path.join(ROOT, "crates", "command_cases")
 SECONDS = 60
 MOST_LINES = 60
-COMMANDS = (b"$", b"counts", b"executes", b"fails", b"cuts")
+COMMANDS = (b"$", b"keeps", b"counts", b"executes", b"fails", b"cuts")
 ESCAPES = {b"n": b"\n", b"r": b"\r", b"t": b"\t", b"\\": b"\\", b"e": b""}
 
 
@@ -33,7 +33,7 @@ class Left(NamedTuple):
 
 
 class Row(NamedTuple):
-    """A command line of a case, with the files that stand there."""
+    """A command line of a case, with the files that stand there: their bytes, or the row whose output one has."""
 
     title: str
     line: bytes
@@ -114,16 +114,20 @@ def rows():
             shown, block = next(blocks)
             if shown != line:
                 sys.exit("crates/command_cases: stdin has %r where stdout has %r" % (line, shown))
-            if word in (b"$", b"counts") and rest and not needs_memory and not next_needs_memory:
+            if word in (b"$", b"keeps", b"counts") and rest and not needs_memory and not next_needs_memory:
                 found.append(Row(title, line, dict(files), left_of(block)))
+            if word == b"keeps":
+                files[unescaped(rest.split(b" ")[0])] = Row(title, line, dict(files), left_of(block))
             next_needs_memory = False
     return found
 
 
-def put(folder, files):
+def put(program, folder, files):
     """Writes the files into the folder, and returns whether all of them can stand there."""
     folder = os.fsencode(folder)
     for path, content in files.items():
+        if isinstance(content, Row):
+            content = output_of(program, content)
         place = os.path.join(folder, path)
         if not os.path.normpath(place).startswith(folder + b"/"):
             return False
@@ -136,12 +140,20 @@ def put(folder, files):
     return True
 
 
+def output_of(program, row):
+    """The bytes that the program writes at a row."""
+    came = came_of(program, row)
+    return b"" if came is None else came.out
+
+
 def came_of(program, row):
     """What the program leaves at a row, or None where no system has such files or words."""
     kind, _, rest = row.line.partition(b" ")
     words = [unescaped(word) for word in rest.split(b" ")]
+    if kind == b"keeps":
+        words = words[1:]
     with tempfile.TemporaryDirectory() as folder:
-        if not put(folder, row.files) or any(b"\0" in word for word in words):
+        if not put(program, folder, row.files) or any(b"\0" in word for word in words):
             return None
         try:
             done = subprocess.run(
@@ -152,6 +164,12 @@ def came_of(program, row):
     # The number of words is the emitter's own affair.
     err = re.sub(rb"(?m)^words \d+$", b"words #", done.stderr) if kind == b"counts" else done.stderr
     return Left(done.returncode, done.stdout, err)
+
+
+def shown_of(program, row):
+    """What is shown of what the program leaves at a row: without its output where that becomes a file."""
+    came = came_of(program, row)
+    return came._replace(out=b"") if came is not None and row.line.startswith(b"keeps ") else came
 
 
 def told(left):
@@ -167,7 +185,7 @@ def main():
     wanted = [row for row in rows() if not titles or row.title in titles]
     passed = failed = 0
     with ThreadPoolExecutor(os.cpu_count()) as pool:
-        for row, came in zip(wanted, pool.map(lambda row: came_of(program, row), wanted)):
+        for row, came in zip(wanted, pool.map(lambda row: shown_of(program, row), wanted)):
             if came == row.expected:
                 passed += 1
             elif came is not None:

@@ -1,4 +1,5 @@
 pub mod Faults
+pub mod IntWords
 pub mod Letters
 pub mod Outcomes
 pub mod Spelled

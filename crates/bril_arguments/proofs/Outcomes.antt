@@ -54,24 +54,34 @@ pub record AreRead (types : List (Option Ty)) (words : List (List ℕ)) (count :
   pub held : wanting ≡ false → values ≡ read
   pub lost : wanting ≡ true → read ≢ []
 
-module _ (vars : List VarInfo) (words : List (List ℕ)) (i : ℕ) (v : VarInfo) (word : List ℕ)
-    (in_vars : i < length vars) (in_words : i < length words) (word_is : word ≡ get_or words i word) where
-  type_is : (d : Option Ty) → get_or (types_of vars) i d ≡ (get_or vars i v).ty
-  type_is d = get_or-map (λ (x : VarInfo). x.ty) vars i v d in_vars
+-- a word, and the type of the value that it is to spell, at a place
+pub record IsAt (types : List (Option Ty)) (words : List (List ℕ)) (i : ℕ) (ty : Option Ty) (word : List ℕ) : Type 0 where
+  pub in_types : i < length types
+  pub in_words : i < length words
+  pub type_is : ty ≡ get_or types i ty
+  pub word_is : word ≡ get_or words i word
 
-  in_types : i < length (types_of vars)
-  in_types = subst (λ n. i < n) (sym (length-map vars (λ (x : VarInfo). x.ty))) in_vars
+-- the type is that of the variable there
+pub variable_at : (vars : List VarInfo) (words : List (List ℕ)) (i : ℕ) (v : VarInfo) (word : List ℕ) → i < length vars → i < length words → word ≡ get_or words i word
+    → IsAt (types_of vars) words i (get_or vars i v).ty word
+variable_at vars words i v word in_vars in_words word_is = record {
+  in_types = subst (λ n. i < n) (sym (length-map vars (λ (x : VarInfo). x.ty))) in_vars;
+  in_words = in_words;
+  type_is = sym (get_or-map (λ (x : VarInfo). x.ty) vars i v (get_or vars i v).ty in_vars);
+  word_is = word_is;
+}
 
+module _ (types : List (Option Ty)) (words : List (List ℕ)) (i : ℕ) (ty : Option Ty) (word : List ℕ) (at : IsAt types words i ty word) where
   -- one more word is read
-  pub one_more : (before after : List Value) (value : Value) → AreSpelled (take i (types_of vars)) (take i words) before → IsSpelled (get_or vars i v).ty word value
-      → after ≡ before ++ value ∷ [] → AreSpelled (take (i + 1) (types_of vars)) (take (i + 1) words) after
+  pub one_more : (before after : List Value) (value : Value) → AreSpelled (take i types) (take i words) before → IsSpelled ty word value
+      → after ≡ before ++ value ∷ [] → AreSpelled (take (i + 1) types) (take (i + 1) words) after
   one_more before after value all one pushed =
-      rw (take_more (types_of vars) i v.ty in_types, take_more words i word in_words, type_is v.ty, sym word_is, pushed)
-      (AreSpelled-push (take i (types_of vars)) (take i words) before (get_or vars i v).ty word value all one)
+      rw (take_more types i ty at.in_types, take_more words i word at.in_words, sym at.type_is, sym at.word_is, pushed)
+      (AreSpelled-push (take i types) (take i words) before ty word value all one)
 
   -- and its value is held, or lost
-  pub AreRead-held : (wanting : Bool) (before after : List Value) (value : Value) → AreRead (types_of vars) words i wanting before → IsSpelled (get_or vars i v).ty word value
-      → after ≡ before ++ value ∷ [] → AreRead (types_of vars) words (i + 1) wanting after
+  pub AreRead-held : (wanting : Bool) (before after : List Value) (value : Value) → AreRead types words i wanting before → IsSpelled ty word value
+      → after ≡ before ++ value ∷ [] → AreRead types words (i + 1) wanting after
   AreRead-held wanting before after value are one pushed = record {
     read = are.read ++ value ∷ [];
     spelled = one_more are.read (are.read ++ value ∷ []) value are.spelled one refl;
@@ -79,8 +89,8 @@ module _ (vars : List VarInfo) (words : List (List ℕ)) (i : ℕ) (v : VarInfo)
     lost = λ _. some_pushed are.read value;
   }
 
-  pub AreRead-lost : (wanting : Bool) (before after : List Value) (value : Value) → AreRead (types_of vars) words i wanting before → IsSpelled (get_or vars i v).ty word value
-      → AreRead (types_of vars) words (i + 1) true after
+  pub AreRead-lost : (wanting : Bool) (before after : List Value) (value : Value) → AreRead types words i wanting before → IsSpelled ty word value
+      → AreRead types words (i + 1) true after
   AreRead-lost wanting before after value are one = record {
     read = are.read ++ value ∷ [];
     spelled = one_more are.read (are.read ++ value ∷ []) value are.spelled one refl;
@@ -89,15 +99,15 @@ module _ (vars : List VarInfo) (words : List (List ℕ)) (i : ℕ) (v : VarInfo)
   }
 
   -- the word is the first that spells nothing
-  pub misspelled : (before : List Value) → AreSpelled (take i (types_of vars)) (take i words) before → ((value : Value) → ¬ IsSpelled (get_or vars i v).ty word value)
-      → IsFirstMisspelled (types_of vars) words (i + 1)
+  pub misspelled : (before : List Value) → AreSpelled (take i types) (take i words) before → ((value : Value) → ¬ IsSpelled ty word value)
+      → IsFirstMisspelled types words (i + 1)
   misspelled before all nothing = record {
     index = i;
     counted = refl;
-    ty = (get_or vars i v).ty;
+    ty = ty;
     word = word;
-    ty_here = slice_get_read (types_of vars) (length (types_of vars)) i (get_or vars i v).ty refl in_types (sym (type_is (get_or vars i v).ty));
-    word_here = slice_get_read words (length words) i word refl in_words word_is;
+    ty_here = slice_get_read types (length types) i ty refl at.in_types at.type_is;
+    word_here = slice_get_read words (length words) i word refl at.in_words at.word_is;
     values = before;
     before = all;
     none = nothing;

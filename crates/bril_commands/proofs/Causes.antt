@@ -8,7 +8,7 @@ use Rattle.bril_checker.specs.Faults as checker
 use Rattle.bril_checker.specs.declared.fault.CheckFault.{CheckFault}
 use Rattle.bril_names.specs.Faults as names
 use Rattle.bril_names.specs.declared.fault.NameFault.{NameFault}
-use Rattle.bril_outside.specs.Files.{FilesSeen}
+use Rattle.bril_outside.specs.Files.{FileMap, FilesSeen}
 use Rattle.bril_outside.specs.Sink.{Rose, SinkSeen}
 use Rattle.bril_report.specs.Puts.{Puts}
 use Rattle.bril_report.specs.Report.{misnamed_pieces, unaccepted_pieces, unread_pieces, status_number, status_pieces}
@@ -27,14 +27,14 @@ use Rattle.bril_words.specs.declared.subcommands.Action.{Action}
 use Rattle.import_linker.specs.declared.fault.LinkFault.{LinkFault}
 use Rattle.import_linker.specs.declared.fault.LinkFault.TheVariants as link
 use Rattle.bril_commands.proofs.Profiles.{not_refused_from, refused_from_once}
-use Rattle.bril_commands.proofs.Reading.{faultless, lacking_fault, lacking_no_tree, lack_told, lacking_unread, not_refused as tree_not_refused, one_refusal, one_tree}
+use Rattle.bril_commands.proofs.Reading.{bytes_not_refused, faultless, lacking_fault, lacking_no_bytes, lacking_no_tree, lack_told, lacking_unread, not_refused as tree_not_refused, one_refusal, one_tree}
 use Rattle.bril_commands.proofs.Statuses.{Ends, plain}
 use Rattle.bril_commands.specs.Arguments.{argument_pieces, HasArgFault, HasOnlyArgFault, RefusesArgs}
 use Rattle.bril_commands.specs.Call.{Call}
 use Rattle.bril_commands.specs.Comes.{ReadsWell, UnlessMemory}
-use Rattle.bril_commands.specs.Command.{Command, OnFile, OnTree, OnProgram, Arguments, NoArguments, OfMain, TakesArguments, AreGiven, RefusesGiven, NeedsProgram, GivesArguments, GivesValues, Spell, profile_of, reach}
+use Rattle.bril_commands.specs.Command.{Command, OnBytes, OnFile, OnTree, OnProgram, Arguments, NoArguments, OfMain, TakesArguments, AreGiven, RefusesGiven, NeedsProgram, GivesArguments, GivesValues, Spell, profile_of, reach}
 use Rattle.bril_commands.specs.CommandLine.{Asks, AsksFor}
-use Rattle.bril_commands.specs.Driver.{IsIdle, Stage, DoesAccepted, DoesTree}
+use Rattle.bril_commands.specs.Driver.{IsIdle, Stage, DoesAccepted, DoesBytes, DoesTree}
 use Rattle.bril_commands.specs.PassList.{PassList}
 use Rattle.bril_commands.specs.Profiles.{IsSourceTold, RefusesProfileFrom}
 use Rattle.bril_commands.specs.Source.{AreTold, Reach, HaveFault, HaveTree, HasOnlyCheckFault, IsOnlyNameFault, IsOnlyProgram, LackFile, RefusesFiles}
@@ -50,7 +50,7 @@ asked_in other (Err refusal) = other
 
 -- a request with these parts
 abbrev pub request_of : Action → List ℕ → List ℕ → Option (List ℕ) → List (List ℕ) → Asked
-request_of action path list profile args = record { action = action; path = path; list = list; profile = profile; args = args }
+request_of action path list second args = record { action = action; path = path; list = list; second = second; args = args }
 
 pub Ok_not_Err : {request : Asked} {refusal : Refusal} → Ok request ≡ Err refusal → ⊥
 Ok_not_Err e = cc
@@ -91,8 +91,23 @@ pub exhausted : (how : Status) (A : Type 0) → how ≡ status.OutOfMemory → U
 exhausted how A e = inl (ap status_number e)
 
 -- the line of a status is put, where nothing is told before it
-said : (c : Call) (asks : Asks c.words) (how : Status) (ends : Ends c asks how) (end : Status) → how ≡ end → ends.told ≡ [] → Puts c.err_before (status_pieces end) c.err_after
+pub said : (c : Call) (asks : Asks c.words) (how : Status) (ends : Ends c asks how) (end : Status) → how ≡ end → ends.told ≡ [] → Puts c.err_before (status_pieces end) c.err_after
 said c asks how ends end e none = subst (λ (h : Status). Puts c.err_before (status_pieces h) c.err_after) e (plain ends.told (status_pieces how) none ends.says)
+
+-- a command that works on bytes has no tree
+no_tree : (k : Command) (how : Status) (holds : Option FileMap) (path : List ℕ) (args told : List (List ℕ)) (s t : SinkSeen) (tree : Tree) → DoesBytes k how holds path args told s t → HaveTree (reach k) holds path tree → ⊥
+no_tree (OnBytes does) how holds path args told s t tree goes have = absurd have
+no_tree (OnFile outcome) how holds path args told s t tree goes have = absurd goes
+no_tree (OnTree outcome) how holds path args told s t tree goes have = absurd goes
+no_tree (OnProgram origin does) how holds path args told s t tree goes have = absurd goes
+
+-- its bytes, once they are held, have no fault of files
+held_faultless : (k : Command) (how : Status) (f g : FilesSeen) (path : List ℕ) (args told : List (List ℕ)) (s t : SinkSeen) (why : LinkFault) → AreTold (reach k) f.holds → DoesBytes k how f.holds path args told s t → HaveFault (reach k) why f g path
+    → (why ≡ link.Memory) ⊎ Rose f.faults g.faults
+held_faultless (OnBytes does) how f g path args told s t why known goes have = bytes_not_refused f g known.0 known.1 path goes.0 why goes.1 have
+held_faultless (OnFile outcome) how f g path args told s t why known goes have = absurd goes
+held_faultless (OnTree outcome) how f g path args told s t why known goes have = absurd goes
+held_faultless (OnProgram origin does) how f g path args told s t why known goes have = absurd goes
 
 -- From files that are told, of which no read failed: they have one tree, which was dealt with, or one fault, which was answered; or memory ran out.
 module _ (c : Call) (asks : Asks c.words) (how : Status) (ends : Ends c asks how) (action : Action) (reads : ReadsWell c action) where
@@ -102,7 +117,7 @@ module _ (c : Call) (asks : Asks c.words) (how : Status) (ends : Ends c asks how
   pub same_args : reads.args ≡ asks.args
   same_args = asked_args c asks action reads.path reads.args reads.asked
 
-  same_action : action ≡ asks.action
+  pub same_action : action ≡ asks.action
   same_action = asked_action c asks action reads.path reads.args reads.asked
 
   told_here : AreTold (reach (command asks.action)) c.files_before.holds
@@ -112,15 +127,16 @@ module _ (c : Call) (asks : Asks c.words) (how : Status) (ends : Ends c asks how
   memory why is either = ⊎_elim (λ e. is ∙ ap link_status e) (λ rose. absurd (reads.sound rose)) either
 
   pub by_tree : (A : Type 0) (tree : Tree) → HaveTree (reach (command action)) c.files_before.holds reads.path tree → (how ≡ status.OutOfMemory → A)
-      → (DoesTree (command action) how c.passes c.files_before c.files_after tree c.profile asks.args ends.told c.out_before c.out_after → A) → A
+      → (DoesTree (command action) how c.passes c.files_before c.files_after tree c.second asks.args ends.told c.out_before c.out_after → A) → A
   by_tree A tree have none goes =
       let here : HaveTree (reach (command asks.action)) c.files_before.holds asks.path tree =
       subst (λ (a : Action). HaveTree (reach (command a)) c.files_before.holds asks.path tree) same_action (subst (λ (p : List ℕ). HaveTree (reach (command action)) c.files_before.holds p tree) same_path have) in
       ⊎_elim (λ refused. none (memory refused.0.0 refused.0.1 (tree_not_refused c.files_before c.files_after asks.path (reach (command asks.action)) tree refused.0.0 told_here here refused.0.2)))
-      (λ deals. goes
-      (subst (λ (t : Tree). DoesTree (command action) how c.passes c.files_before c.files_after t c.profile asks.args ends.told c.out_before c.out_after)
+      (⊎_elim (λ deals. goes
+      (subst (λ (t : Tree). DoesTree (command action) how c.passes c.files_before c.files_after t c.second asks.args ends.told c.out_before c.out_after)
       (one_tree c.files_before c.files_after asks.path (reach (command asks.action)) deals.0 tree told_here deals.1 here)
-      (subst (λ a. DoesTree (command a) how c.passes c.files_before c.files_after deals.0 c.profile asks.args ends.told c.out_before c.out_after) (sym same_action) deals.2)))
+      (subst (λ a. DoesTree (command a) how c.passes c.files_before c.files_after deals.0 c.second asks.args ends.told c.out_before c.out_after) (sym same_action) deals.2)))
+      (λ goes. absurd (no_tree (command asks.action) how c.files_before.holds asks.path asks.args ends.told c.out_before c.out_after tree goes here)))
       ends.does
 
   -- a fault was answered, where the files have this one
@@ -140,7 +156,8 @@ module _ (c : Call) (asks : Asks c.words) (how : Status) (ends : Ends c asks how
   by_fault A why ample have none answered =
       ⊎_elim (λ refused. fault_answered A why refused.0.0 ample refused.0.1 refused.1.0.0 none answered
       (one_refusal c.files_before c.files_after asks.path (reach (command asks.action)) refused.0.0 why told_here refused.0.2 (fault_here why have)))
-      (λ deals. absurd (⊎_elim ample reads.sound (faultless c.files_before c.files_after asks.path (reach (command asks.action)) deals.0 why told_here deals.1 (fault_here why have))))
+      (⊎_elim (λ deals. absurd (⊎_elim ample reads.sound (faultless c.files_before c.files_after asks.path (reach (command asks.action)) deals.0 why told_here deals.1 (fault_here why have))))
+      (λ goes. absurd (⊎_elim ample reads.sound (held_faultless (command asks.action) how c.files_before c.files_after asks.path asks.args ends.told c.out_before c.out_after why told_here goes (fault_here why have)))))
       ends.does
 
 -- ---- a command that needs a program
@@ -148,12 +165,14 @@ module _ (c : Call) (asks : Asks c.words) (how : Status) (ends : Ends c asks how
 -- it asks for the program
 asks_program : (k : Command) (how : Status) (l : PassList) (f g : FilesSeen) (tree : Tree) (named : Option (List ℕ)) (args : List (List ℕ)) (told : List (List ℕ)) (s t : SinkSeen) → NeedsProgram k → DoesTree k how l f g tree named args told s t
     → Stage (RefusesProgram how tree) (IsIdle l told s t) (λ p. IsAcceptedProgram tree p) (λ p is. DoesAccepted k how l f g p named args told s t)
+asks_program (OnBytes does) how l f g tree named args told s t needs goes = absurd needs
 asks_program (OnFile outcome) how l f g tree named args told s t needs does = absurd needs
 asks_program (OnTree outcome) how l f g tree named args told s t needs does = absurd needs
 asks_program (OnProgram origin does) how l f g tree named args told s t needs goes = goes
 
 -- a command that gives a program arguments asks for it
 needs_program : (k : Command) → GivesArguments k → NeedsProgram k
+needs_program (OnBytes does) gives = absurd gives
 needs_program (OnFile outcome) gives = absurd gives
 needs_program (OnTree outcome) gives = absurd gives
 needs_program (OnProgram origin does) gives = tt
@@ -172,6 +191,7 @@ module _ (how : Status) (tree : Tree) (Silent : Type 0) (Goes : Prog → Type 0)
 -- the arguments are refused, or spell values
 given : (k : Command) (how : Status) (l : PassList) (f g : FilesSeen) (p : Prog) (named : Option (List ℕ)) (args : List (List ℕ)) (told : List (List ℕ)) (s t : SinkSeen) → GivesArguments k → DoesAccepted k how l f g p named args told s t
     → (RefusesArgs how p args × (told ≡ [])) ⊎ ((fault : ArgFault) → HasArgFault (main_types p) args fault → ⊥)
+given (OnBytes does) how l f g p named args told s t gives goes = absurd gives
 given (OnFile outcome) how l f g p named args told s t gives does = absurd gives
 given (OnTree outcome) how l f g p named args told s t gives does = absurd gives
 given (OnProgram origin does) how l f g p named args told s t gives goes = spelled does.arguments gives (⊎_elim (λ refused. inl (refused.0, refused.1.0.0)) (λ values. inr (values.0, values.1)) goes)
@@ -194,6 +214,7 @@ same_values OfMain p args given values are spelled = are.only values spelled
 
 -- a command whose program gets values asks for it
 values_need : (k : Command) (p : Prog) (args : List (List ℕ)) (values : List Value) → GivesValues k p args values → NeedsProgram k
+values_need (OnBytes does) p args values gives = absurd gives
 values_need (OnFile outcome) p args values gives = absurd gives
 values_need (OnTree outcome) p args values gives = absurd gives
 values_need (OnProgram origin does) p args values gives = tt
@@ -204,6 +225,7 @@ module _ (k : Command) (f g : FilesSeen) (sound : ¬ Rose f.faults g.faults) (ho
   profile_answered = by k
     where
       by : (k : Command) → GivesValues k p args values → IsSourceTold (profile_of k) named f.holds → RefusesProfileFrom (profile_of k) named why f g → DoesAccepted k how l f g p named args told s t → (how ≡ status.OutOfMemory) ⊎ ((how ≡ why) × (told ≡ []))
+      by (OnBytes does) gives are refuses goes = absurd gives
       by (OnFile outcome) gives are refuses does = absurd gives
       by (OnTree outcome) gives are refuses does = absurd gives
       by (OnProgram origin does) gives are refuses goes =
@@ -235,16 +257,16 @@ module _ (c : Call) (asks : Asks c.words) (how : Status) (ends : Ends c asks how
     by_program : (A : Type 0) → (how ≡ status.OutOfMemory → A)
         → (ends.told ≡ [] → (fault : NameFault) → how ≡ status.Misnamed fault → IsOnlyNameFault tree fault → A)
         → (ends.told ≡ [] → (p : Prog) (fault : CheckFault) → how ≡ status.Unaccepted p fault → IsOnlyProgram tree p → HasOnlyCheckFault p fault → A)
-        → ((p : Prog) → IsAcceptedProgram tree p → DoesAccepted (command action) how c.passes c.files_before c.files_after p c.profile asks.args ends.told c.out_before c.out_after → A) → A
+        → ((p : Prog) → IsAcceptedProgram tree p → DoesAccepted (command action) how c.passes c.files_before c.files_after p c.second asks.args ends.told c.out_before c.out_after → A) → A
     by_program A memory misnamed unaccepted goes =
         by_tree c asks how ends action reads A tree linked memory
-        (λ does. by_names how tree (IsIdle c.passes ends.told c.out_before c.out_after) (λ q. DoesAccepted (command action) how c.passes c.files_before c.files_after q c.profile asks.args ends.told c.out_before c.out_after)
-        (asks_program (command action) how c.passes c.files_before c.files_after tree c.profile asks.args ends.told c.out_before c.out_after needs does) A memory
+        (λ does. by_names how tree (IsIdle c.passes ends.told c.out_before c.out_after) (λ q. DoesAccepted (command action) how c.passes c.files_before c.files_after q c.second asks.args ends.told c.out_before c.out_after)
+        (asks_program (command action) how c.passes c.files_before c.files_after tree c.second asks.args ends.told c.out_before c.out_after needs does) A memory
         (λ none. misnamed none.0.0) (λ none. unaccepted none.0.0) goes)
 
     -- where the tree has a program, nothing else comes: memory ran out, or the program has a fault of the checker, or it is accepted and was dealt with
     pub with_program : (A : Type 0) (p : Prog) → Numbered tree p → (how ≡ status.OutOfMemory → A) → ((fault : CheckFault) → how ≡ status.Unaccepted p fault → ends.told ≡ [] → HasOnlyCheckFault p fault → A)
-        → (IsFaultless p → DoesAccepted (command action) how c.passes c.files_before c.files_after p c.profile asks.args ends.told c.out_before c.out_after → A) → A
+        → (IsFaultless p → DoesAccepted (command action) how c.passes c.files_before c.files_after p c.second asks.args ends.told c.out_before c.out_after → A) → A
     with_program A p numbered memory unaccepted goes =
         by_program A memory
         (λ none fault e has. absurd (has.unnumbered p numbered))
@@ -253,7 +275,7 @@ module _ (c : Call) (asks : Asks c.words) (how : Status) (ends : Ends c asks how
         unaccepted fault (subst (λ r. how ≡ status.Unaccepted r fault) same e) none (subst (λ r. HasOnlyCheckFault r fault) same has))
         (λ q program done.
         let same : q ≡ p = program.only.alone p numbered in
-        goes (subst IsFaultless same program.sound) (subst (λ r. DoesAccepted (command action) how c.passes c.files_before c.files_after r c.profile asks.args ends.told c.out_before c.out_after) same done))
+        goes (subst IsFaultless same program.sound) (subst (λ r. DoesAccepted (command action) how c.passes c.files_before c.files_after r c.second asks.args ends.told c.out_before c.out_after) same done))
 
     pub misnamed_where : (fault : NameFault) → names.HasFault tree fault → UnlessMemory (status_number how) ((status_number how ≡ 65) × Puts c.err_before (misnamed_pieces fault) c.err_after)
     misnamed_where fault has =
@@ -289,13 +311,13 @@ module _ (c : Call) (asks : Asks c.words) (how : Status) (ends : Ends c asks how
       (argument_said fault c.err_before c.err_after ample (said c asks how ends (argument_status fault) same refused.1))))
       (args_fail how p asks.args refused.0))
       (λ faultless. absurd (faultless fault (ample, here)))
-      (given (command action) how c.passes c.files_before c.files_after p c.profile asks.args ends.told c.out_before c.out_after gives does))
+      (given (command action) how c.passes c.files_before c.files_after p c.second asks.args ends.told c.out_before c.out_after gives does))
 
-  -- ---- the profile's file
+  -- ---- the second file
 
   module _ (reads : ReadsWell c action) (tree : Tree) (p : Prog) (linked : HaveTree (reach (command action)) c.files_before.holds reads.path tree) (numbered : Numbered tree p) (accepted : IsAccepted p) where
-    -- the arguments are spelled, and the profile's file is refused so
-    pub refused_where : (values : List Value) → GivesValues (command action) p reads.args values → (why : Status) → why ≢ status.OutOfMemory → RefusesProfileFrom (profile_of (command action)) c.profile why c.files_before c.files_after
+    -- the arguments are spelled, and the file of the profile or of the script is refused so
+    pub refused_where : (values : List Value) → GivesValues (command action) p reads.args values → (why : Status) → why ≢ status.OutOfMemory → RefusesProfileFrom (profile_of (command action)) c.second why c.files_before c.files_after
         → UnlessMemory (status_number how) ((status_number how ≡ status_number why) × Puts c.err_before (status_pieces why) c.err_after)
     refused_where values spelled why ample refuses =
         let here : GivesValues (command action) p asks.args values = subst (λ a. GivesValues (command action) p a values) (same_args c asks how ends action reads) spelled in
@@ -303,9 +325,16 @@ module _ (c : Call) (asks : Asks c.words) (how : Status) (ends : Ends c asks how
         (λ fault e none has. absurd (has.unaccepted accepted))
         (λ faultless does. ⊎_elim (exhausted how _)
         (λ answered. inr (ap status_number answered.0, said c asks how ends why answered.0 answered.1))
-        (profile_answered (command action) c.files_before c.files_after reads.sound how why ample c.passes p c.profile asks.args ends.told c.out_before c.out_after values here reads.told_profile refuses does))
+        (profile_answered (command action) c.files_before c.files_after reads.sound how why ample c.passes p c.second asks.args ends.told c.out_before c.out_after values here reads.told_profile refuses does))
 
 -- ---- a file that isn't there
+
+-- it isn't held
+lacking_not_held : (k : Command) (how : Status) (f g : FilesSeen) (root path : List ℕ) (args told : List (List ℕ)) (s t : SinkSeen) → LackFile (reach k) f.holds root path → DoesBytes k how f.holds root args told s t → ⊥
+lacking_not_held (OnBytes does) how f g root path args told s t lack goes = lacking_no_bytes f g root path goes.0 lack goes.1
+lacking_not_held (OnFile outcome) how f g root path args told s t lack goes = absurd goes
+lacking_not_held (OnTree outcome) how f g root path args told s t lack goes = absurd goes
+lacking_not_held (OnProgram origin does) how f g root path args told s t lack goes = absurd goes
 
 not_both : (n : ℕ) → n ≡ 66 → n ≡ 71 → ⊥
 not_both n a b = omega arith
@@ -337,5 +366,6 @@ module _ (c : Call) (asks : Asks c.words) (how : Status) (ends : Ends c asks how
       let number : status_number how ≡ 66 = ap status_number (refused.0.1 ∙ ap link_status unread.1) in
       inr (number, line refused.0.0 refused.0.1 refused.0.2 refused.1.0.0 number))
       (lacking_unread c.files_before c.files_after asks.path path Kind refused.0.0 here refused.0.2))
-      (λ deals. absurd (lacking_no_tree c.files_before c.files_after asks.path path Kind deals.0 here deals.1))
+      (⊎_elim (λ deals. absurd (lacking_no_tree c.files_before c.files_after asks.path path Kind deals.0 here deals.1))
+      (λ goes. absurd (lacking_not_held (command asks.action) how c.files_before c.files_after asks.path path asks.args ends.told c.out_before c.out_after here goes)))
       ends.does

@@ -1,7 +1,9 @@
 pub mod Budgets
+pub mod BytesWhen
 pub mod Causes
 pub mod Counts
 pub mod Driving
+pub mod Held
 pub mod Interpreting
 pub mod Keeping
 pub mod Outcomes

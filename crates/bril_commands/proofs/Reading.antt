@@ -15,7 +15,7 @@ use Rattle.import_linker.specs.Reading.{IsRead, RefusesSource, StopsAt}
 use Rattle.import_linker.specs.declared.fault.LinkFault.{LinkFault}
 use Rattle.import_linker.specs.declared.fault.LinkFault.TheVariants as fault
 use Rattle.import_linker.specs.declared.sources.Source.{Source}
-use Rattle.bril_commands.specs.Source.{Reach, Alone, WithImports, OfDemo, AreTold, FileHasFault, HaveFault, HaveTree, HoldsTree, IsFileTree, IsTreeAt, LackFile, RefusesFiles}
+use Rattle.bril_commands.specs.Source.{Reach, Alone, WithImports, BytesAlone, OfDemo, AreTold, FileHasFault, HaveFault, HaveTree, HoldsBytes, HoldsTree, IsFileTree, IsTreeAt, LackFile, RefusesBytes, RefusesFiles}
 use Rattle.bril_commands.specs.Stages.{RefusesTree}
 
 -- ---- what is read of one file
@@ -32,6 +32,7 @@ RefusesTree-of reach why how before after path copied is status refuses = (why, 
 pub memory_refuses : (reach : Reach) (before after : FilesSeen) (path : List ℕ) → RefusesTree reach status.OutOfMemory before after path
 memory_refuses Alone before after path = (fault.Memory, refl, tt)
 memory_refuses WithImports before after path = (fault.Memory, refl, tt)
+memory_refuses BytesAlone before after path = (fault.Memory, refl, tt)
 memory_refuses (OfDemo functions) before after path = (fault.Memory, refl, refl)
 
 -- ---- one file
@@ -123,28 +124,71 @@ module _ (before after : FilesSeen) (map : FileMap) (told : before.holds ≡ Som
   file_lacking fault.TooManyBytes lacks h = absurd (held_not_lacking before.holds path h.0 h.1 lacks)
   file_lacking fault.Memory lacks h = inl refl
 
+-- ---- the bytes of one file
+
+-- what refuses the bytes refuses the tree
+refuses_source : (f : LinkFault) (before after : FilesSeen) (path : List ℕ) → RefusesBytes f before after path → RefusesSource f before after path most_bytes
+refuses_source (fault.Bad p why) before after path h = absurd h
+refuses_source (fault.Read p) before after path h = h
+refuses_source (fault.NotThere p name) before after path h = h
+refuses_source (fault.Clash p name) before after path h = h
+refuses_source fault.TooManyFiles before after path h = h
+refuses_source fault.TooManyBytes before after path h = h
+refuses_source fault.Memory before after path h = h
+
+-- the same as a fault of the file
+has_fault : (f : LinkFault) (before after : FilesSeen) (path : List ℕ) → RefusesBytes f before after path → FileHasFault f before after path
+has_fault (fault.Bad p why) before after path h = absurd h
+has_fault (fault.Read p) before after path h = h
+has_fault (fault.NotThere p name) before after path h = h
+has_fault (fault.Clash p name) before after path h = h
+has_fault fault.TooManyFiles before after path h = h
+has_fault fault.TooManyBytes before after path h = h
+has_fault fault.Memory before after path h = h
+
+module _ (before after : FilesSeen) (map : FileMap) (told : before.holds ≡ Some map) (path : List ℕ) where
+  -- the file has one list of bytes
+  pub bytes_once : (bytes other : List ℕ) → HoldsBytes before.holds path bytes → HoldsBytes before.holds path other → bytes ≡ other
+  bytes_once bytes other a b = told_bytes before.holds map path bytes other told a.held b.held
+
+  -- bytes that are held are refused only where memory is wanting or a read failed
+  pub bytes_not_refused : (bytes : List ℕ) (f : LinkFault) → HoldsBytes before.holds path bytes → RefusesBytes f before after path → (f ≡ fault.Memory) ⊎ Rose before.faults after.faults
+  bytes_not_refused bytes (fault.Read p) a h = ⊎_elim inr (λ lacks. absurd (held_not_lacking before.holds path bytes a.held lacks)) h.1
+  bytes_not_refused bytes (fault.Bad p why) a h = absurd h
+  bytes_not_refused bytes (fault.NotThere p name) a h = absurd h
+  bytes_not_refused bytes (fault.Clash p name) a h = absurd h
+  bytes_not_refused bytes fault.TooManyFiles a h = absurd h
+  bytes_not_refused bytes fault.TooManyBytes a h =
+      let size : length bytes ≡ length h.0 = ap length (told_bytes before.holds map path bytes h.0 told a.held h.1) in
+      let short = a.short in let long = h.2 in absurd (omega arith)
+  bytes_not_refused bytes fault.Memory a h = inl refl
+
 -- ---- the files of a command
 
 module _ (before after : FilesSeen) (path : List ℕ) where
   pub one_tree : (reach : Reach) (t u : Tree) → AreTold reach before.holds → IsTreeAt reach before.holds path t → HaveTree reach before.holds path u → t ≡ u
   one_tree Alone t u told a b = file_once before after told.0 told.1 path t u a b
   one_tree WithImports t u told a b = linked_once told.0 path t u (subst (λ (o : Option FileMap). Linked o path t) told.1 a) (subst (λ (o : Option FileMap). Linked o path u) told.1 b)
+  one_tree BytesAlone t u told a b = absurd a
   one_tree (OfDemo functions) t u told a b = a ∙ sym b
 
   pub not_refused : (reach : Reach) (t : Tree) (f : LinkFault) → AreTold reach before.holds → HaveTree reach before.holds path t → RefusesFiles reach f before after path → (f ≡ fault.Memory) ⊎ Rose before.faults after.faults
   not_refused Alone t f told a h = file_not_refused before after told.0 told.1 path t f a h
   not_refused WithImports t f told a h = linked_not_refused told.0 before after path t f told.1 a h
+  not_refused BytesAlone t f told a h = absurd a
   not_refused (OfDemo functions) t f told a h = inl h
 
   pub faultless : (reach : Reach) (t : Tree) (f : LinkFault) → AreTold reach before.holds → IsTreeAt reach before.holds path t → HaveFault reach f before after path → (f ≡ fault.Memory) ⊎ Rose before.faults after.faults
   faultless Alone t f told a h = file_faultless before after told.0 told.1 path t f a h
   faultless WithImports t f told a h = linked_not_refused told.0 before after path t f told.1 a h
+  faultless BytesAlone t f told a h = absurd a
   faultless (OfDemo functions) t f told a h = absurd h
 
   pub one_refusal : (reach : Reach) (f g : LinkFault) → AreTold reach before.holds → RefusesFiles reach f before after path → HaveFault reach g before after path
       → ((f ≡ fault.Memory) ⊎ (g ≡ fault.Memory)) ⊎ (Rose before.faults after.faults ⊎ (f ≡ g))
   one_refusal Alone f g told a b = file_refused_once before after told.0 told.1 path f g a b
   one_refusal WithImports f g told a b = refused_once told.0 before after path f g told.1 a b
+  one_refusal BytesAlone f g told a b = file_refused_once before after told.0 told.1 path f g (refuses_source f before after path a) (has_fault g before after path b)
   one_refusal (OfDemo functions) f g told a b = absurd b
 
 -- ---- a file that isn't there
@@ -158,6 +202,7 @@ lacking_told (Some map) path lacks = (map, refl)
 pub lack_told : (holds : Option FileMap) (root path : List ℕ) (reach : Reach) → LackFile reach holds root path → AreTold reach holds
 lack_told holds root path Alone h = lacking_told holds path h.lacks
 lack_told holds root path WithImports h = lacking_told holds path h.lacks
+lack_told holds root path BytesAlone h = lacking_told holds path h.lacks
 lack_told holds root path (OfDemo functions) h = tt
 
 module _ (before after : FilesSeen) (root path : List ℕ) where
@@ -165,6 +210,7 @@ module _ (before after : FilesSeen) (root path : List ℕ) where
   pub lacking_fault : (reach : Reach) → LackFile reach before.holds root path → HaveFault reach (fault.Read path) before after root
   lacking_fault Alone h = (h.next, subst (λ (p : List ℕ). MayFail before after p) h.next (inr h.lacks))
   lacking_fault WithImports h = record { done = h.next.0; stops = h.next.1; fails = inr h.lacks }
+  lacking_fault BytesAlone h = (h.next, subst (λ (p : List ℕ). MayFail before after p) h.next (inr h.lacks))
   lacking_fault (OfDemo functions) h = absurd h.next
 
   pub lacking_unread : (reach : Reach) (f : LinkFault) → LackFile reach before.holds root path → RefusesFiles reach f before after root → (f ≡ fault.Memory) ⊎ ((other : List ℕ) × (f ≡ fault.Read other))
@@ -174,6 +220,9 @@ module _ (before after : FilesSeen) (root path : List ℕ) where
   lacking_unread WithImports f h refuses =
       let told = lacking_told before.holds path h.lacks in
       lacking_not_read told.0 before after root path h.next.0 f told.1 h.next.1 h.lacks refuses
+  lacking_unread BytesAlone f h refuses =
+      let told = lacking_told before.holds path h.lacks in
+      file_lacking before after told.0 told.1 root f (subst (λ (p : List ℕ). LacksFile before.holds p) h.next h.lacks) (refuses_source f before after root refuses)
   lacking_unread (OfDemo functions) f h refuses = absurd h.next
 
   pub lacking_no_tree : (reach : Reach) (t : Tree) → LackFile reach before.holds root path → IsTreeAt reach before.holds root t → ⊥
@@ -184,4 +233,9 @@ module _ (before after : FilesSeen) (root path : List ℕ) where
       (subst (λ (o : Option FileMap). StopsAt o root path h.next.0) told.1 h.next.1)
       (subst (λ (o : Option FileMap). LacksFile o path) told.1 h.lacks)
       (subst (λ (o : Option FileMap). Linked o root t) told.1 a)
+  lacking_no_tree BytesAlone t h a = absurd a
   lacking_no_tree (OfDemo functions) t h a = absurd h.next
+
+  -- nor has it bytes
+  pub lacking_no_bytes : (bytes : List ℕ) → LackFile BytesAlone before.holds root path → HoldsBytes before.holds root bytes → ⊥
+  lacking_no_bytes bytes h a = held_not_lacking before.holds root bytes a.held (subst (λ (p : List ℕ). LacksFile before.holds p) h.next h.lacks)

@@ -20,6 +20,7 @@ use Rattle.import_linker.specs.Linked.{Linked}
 use Rattle.rv64_image_laws.specs.Implements.{image_after}
 use Rattle.rv64_image_laws.specs.Shown.{ProgramEnds}
 use Rattle.rv64_image_laws.specs.WordBounds.{IsWithin}
+use Rattle.rv64_words.specs.State.{Stop, Finished, Trapped}
 use Rattle.bril_commands.proofs.Budgets.{runs_past_list}
 use Rattle.bril_commands.proofs.Causes.{asked_action}
 use Rattle.bril_commands.specs.Answers.{Answers, Exhausted, Promises}
@@ -28,6 +29,7 @@ use Rattle.bril_commands.specs.Comes.{CommandComesTo, ComesTo, ReadsWell, TellsR
 use Rattle.bril_commands.specs.Command.{Emission, FactorOf, AreEnough, ImageFor, Makes}
 use Rattle.bril_commands.specs.CommandLine.{Asks}
 use Rattle.bril_commands.specs.Driver.{subject}
+use Rattle.bril_commands.specs.Outcome.{ShowsSo}
 use Rattle.bril_commands.specs.ProfileFiles.{IsProfileAt, IsProfileTold}
 use Rattle.bril_commands.specs.RunIsCorrect.{AsksToRun, ComesAsSource, HasEnded, IsTooLarge, RunsOn, Says}
 use Rattle.bril_commands.specs.Sources.{SourceRunsOn, SourceShows}
@@ -68,7 +70,7 @@ module _ (status : ℕ) (c : Call) (promises : Promises status c) (run : AsksToR
   Image = ImageFor run.settings.limits.frames run.settings.limits.cells
 
   abbrev reads : ReadsWell c Asked
-  reads = record { path = run.path; args = run.args; asked = run.asked; told = (run.files, run.told); told_profile = profile_told c.profile run.files run.told; sound = run.read }
+  reads = record { path = run.path; args = run.args; asked = run.asked; told = (run.files, run.told); told_profile = profile_told c.second run.files run.told; sound = run.read }
 
   -- ---- each status
 
@@ -147,8 +149,15 @@ module _ (status : ℕ) (c : Call) (promises : Promises status c) (run : AsksToR
           says = said None shows (spent_pieces run.settings.steps) puts;
         }
 
-    ran : (ended : Option End) → Shows ended → TellsRun ended run.settings.steps told status c → ComesAsSource status c run
-    ran (Some Ended) shows tells = record {
+    -- what the machine that ran an image shows; it never traps
+    abbrev ShowsStop : Option Stop → Type 0
+    ShowsStop None = Shows None
+    ShowsStop (Some (Finished end)) = Shows (Some end)
+    ShowsStop (Some (Trapped trap)) = ⊥
+
+    ran : (ended : Option Stop) → ShowsStop ended → TellsRun ended run.settings.steps told status c → ComesAsSource status c run
+    ran (Some (Trapped trap)) shows tells = absurd shows
+    ran (Some (Finished Ended)) shows tells = record {
       done = λ e. has_ended Ended shows [] (subst (λ (ps : List (List ℕ)). Puts c.err_before ps c.err_after) (sym (append-nil told)) tells.1);
       faulted = λ e. absurd (let is = tells.0 in omega (arith, is, e));
       spent = λ e. absurd (let is = tells.0 in omega (arith, is, e));
@@ -156,7 +165,7 @@ module _ (status : ℕ) (c : Call) (promises : Promises status c) (run : AsksToR
       silent = silent;
       only = inl tells.0;
     }
-    ran (Some (Faulted fault)) shows tells = record {
+    ran (Some (Finished (Faulted fault))) shows tells = record {
       done = λ e. absurd (let is = tells.0 in omega (arith, is, e));
       faulted = λ e. (fault, has_ended (Faulted fault) shows (fault_line fault ∷ []) tells.1);
       spent = λ e. absurd (let is = tells.0 in omega (arith, is, e));
@@ -173,17 +182,22 @@ module _ (status : ℕ) (c : Call) (promises : Promises status c) (run : AsksToR
       only = inr (inr (inl tells.0));
     }
 
+    shows_stop : (ended : Option Stop) → ShowsSo ((runs run.settings.limits.frames run.settings.limits.cells run.settings.steps run.settings.stats).outcome (subject (runs run.settings.limits.frames run.settings.limits.cells run.settings.steps run.settings.stats) c.passes c.second c.files_before.holds run.entries run.source made makes run.values)) ended told output → ShowsStop ended
+    shows_stop None shows = shows
+    shows_stop (Some (Finished end)) shows = shows
+    shows_stop (Some (Trapped trap)) shows = absurd shows
+
   -- the list made this program
   after : (made : Prog) (makes : Makes true c.passes run.entries run.source made)
-      → AfterEmission Image status made (IsDoneUnless status c ((runs run.settings.limits.frames run.settings.limits.cells run.settings.steps run.settings.stats).outcome (subject (runs run.settings.limits.frames run.settings.limits.cells run.settings.steps run.settings.stats) c.passes run.entries run.source made makes run.values)))
+      → AfterEmission Image status made (IsDoneUnless status c ((runs run.settings.limits.frames run.settings.limits.cells run.settings.steps run.settings.stats).outcome (subject (runs run.settings.limits.frames run.settings.limits.cells run.settings.steps run.settings.stats) c.passes c.second c.files_before.holds run.entries run.source made makes run.values)))
       → ComesAsSource status c run
   after made makes emitted =
       ⊎_elim (λ long. too_large (inr (made, makes, subst (λ (l : Limits). ¬ IsWithin made l) (limits_same emitted.0 run.settings.limits emitted.1.0 emitted.1.1) long.0)) long.1)
-      (λ fits. let done = fits.1 run.written in ran made makes done.told done.output done.took done.ended done.shows done.says)
+      (λ fits. let done = fits.1 run.written in ran made makes done.told done.output done.took done.ended (shows_stop made makes done.told done.output done.took done.ended done.shows) done.says)
       emitted.2
 
   pub RunIsCorrect-promised : ComesAsSource status c run
   RunIsCorrect-promised =
       ⊎_elim exhausted (⊎_elim stops (λ made. after made.0 made.1 made.2))
       (promises.does Asked reads run.tree (subst (λ (holds : Option FileMap). Linked holds run.path run.tree) (sym run.told) run.linked) run.source run.values run.entries run.numbered run.accepted run.spelled
-      (subst (λ (holds : Option FileMap). IsProfileAt c.profile holds run.entries) (sym run.told) run.profiled))
+      (subst (λ (holds : Option FileMap). IsProfileAt c.second holds run.entries) (sym run.told) run.profiled))

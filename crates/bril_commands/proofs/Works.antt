@@ -5,9 +5,10 @@ use Rattle.bril_report.specs.declared.status.Status.TheVariants as status
 use Rattle.bril_report.specs.declared.status.Status.{Status}
 use Rattle.bril_tree.specs.declared.limits.End.TheVariants.{Ended, Faulted}
 use Rattle.bril_tree.specs.declared.limits.End.{End}
+use Rattle.rv64_words.specs.declared.trap.Trap.{Trap}
 use Rattle.bril_commands.specs.Outcome.{Outcome, WritesPieces, ShowsPut, ShowsWhole, ShowsPartly, Works, end_status, writes}
 
-module _ (a b : Outcome) (steps : a.steps ≡ b.steps) (unwritten : a.unwritten ≡ b.unwritten) (shows : (ended : Option End) (told output : List (List ℕ)) → a.Shows ended told output → b.Shows ended told output) (exhausts : (output : List (List ℕ)) → a.Exhausts output → b.Exhausts output) (told : List (List ℕ)) (s t : SinkSeen) where
+module _ (a b : Outcome) (steps : a.steps ≡ b.steps) (unwritten : a.unwritten ≡ b.unwritten) (shows : (ended : Option End) (told output : List (List ℕ)) → a.Shows ended told output → b.Shows ended told output) (traps : (trap : Trap) (told output : List (List ℕ)) → a.Traps trap told output → b.Traps trap told output) (exhausts : (output : List (List ℕ)) → a.Exhausts output → b.Exhausts output) (told : List (List ℕ)) (s t : SinkSeen) where
   whole : (ended : Option End) → ShowsWhole a ended told s t → ShowsWhole b ended told s t
   whole ended w = record { output = w.output; shows = shows ended told w.output w.shows; took = w.took }
 
@@ -15,15 +16,24 @@ module _ (a b : Outcome) (steps : a.steps ≡ b.steps) (unwritten : a.unwritten 
   Works-as status.Done works = whole _ works
   Works-as (status.Faulted fault) works = whole _ works
   Works-as (status.Spent made) works = (works.0 ∙ steps, whole _ works.1)
+  Works-as (status.Trapped trap) works = record { output = works.output; traps = traps trap told works.output works.traps; took = works.took }
   Works-as status.CannotWrite works = (
     works.0 ∙ unwritten,
-    record {
-      ended = works.1.ended;
-      told = works.1.told;
-      output = works.1.output;
-      shows = shows works.1.ended works.1.told works.1.output works.1.shows;
-      took = works.1.took;
-    },
+    ⊎_elim (λ partly. inl (record {
+      ended = partly.ended;
+      told = partly.told;
+      output = partly.output;
+      shows = shows partly.ended partly.told partly.output partly.shows;
+      took = partly.took;
+    }))
+        (λ partly. inr (record {
+          trap = partly.trap;
+          told = partly.told;
+          output = partly.output;
+          traps = traps partly.trap partly.told partly.output partly.traps;
+          took = partly.took;
+        }))
+        works.1,
   )
   Works-as status.OutOfMemory works = (works.0, ⊎_elim inl (λ short. inr (short.0, exhausts short.0 short.1, short.2)) works.1)
   Works-as _ works = absurd works
@@ -31,7 +41,7 @@ module _ (a b : Outcome) (steps : a.steps ≡ b.steps) (unwritten : a.unwritten 
 -- pieces were put, and this is told either way
 pub Works-told : (told : List (List ℕ)) (IsOutput : List (List ℕ) → Type 0) (pieces : List (List ℕ)) → IsOutput pieces → (how : Status) (s t : SinkSeen) → WritesPieces how pieces s t → Works (writes told IsOutput) how told s t
 Works-told told IsOutput pieces is status.Done s t puts = record { output = pieces; shows = (refl, refl, is); took = puts }
-Works-told told IsOutput pieces is status.CannotWrite s t puts = (refl, record { ended = _; told = _; output = pieces; shows = (refl, refl, is); took = puts })
+Works-told told IsOutput pieces is status.CannotWrite s t puts = (refl, inl (record { ended = _; told = _; output = pieces; shows = (refl, refl, is); took = puts }))
 Works-told told IsOutput pieces is _ s t puts = absurd puts
 
 -- it ended so, or goes on after the steps

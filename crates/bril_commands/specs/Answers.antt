@@ -11,7 +11,7 @@ use Rattle.bril_outside.specs.Sink.{Rose}
 use Rattle.bril_profile.specs.declared.profile.Entry.{Entry}
 use Rattle.bril_report.specs.Lines.{fault_line}
 use Rattle.bril_report.specs.Puts.{Puts, HoldsBack, WritesAll, WritesSome}
-use Rattle.bril_report.specs.Report.{misread_pieces, not_there_pieces, clash_pieces, misnamed_pieces, unaccepted_pieces, unread_pieces, many_bytes_pieces, many_files_pieces, long_profile_pieces, profile_pieces, spent_pieces, code_pieces, stack_pieces, pass_pieces, unknown_pass_pieces}
+use Rattle.bril_report.specs.Report.{status_number, status_pieces, long_script_pieces, script_pieces, trap_pieces, misread_pieces, not_there_pieces, clash_pieces, misnamed_pieces, unaccepted_pieces, unread_pieces, many_bytes_pieces, many_files_pieces, long_profile_pieces, profile_pieces, spent_pieces, code_pieces, stack_pieces, pass_pieces, unknown_pass_pieces}
 use Rattle.bril_report.specs.declared.status.Status.TheVariants as status
 use Rattle.bril_report.specs.declared.status.Status.{Status}
 use Rattle.import_linker.specs.declared.formats.fault.ReadFault.{ReadFault}
@@ -19,7 +19,6 @@ use Rattle.bril_tree.specs.Accepted.{IsAccepted}
 use Rattle.bril_tree.specs.Numbered.{Numbered}
 use Rattle.bril_tree.specs.Run.{main_types}
 use Rattle.bril_tree.specs.declared.limits.End.TheVariants.{Ended, Faulted}
-use Rattle.bril_tree.specs.declared.limits.End.{End}
 use Rattle.bril_tree.specs.declared.limits.Fault.{Fault}
 use Rattle.bril_tree.specs.declared.limits.Limits.{Limits}
 use Rattle.bril_tree.specs.declared.program.Prog.{Prog}
@@ -33,19 +32,22 @@ use Rattle.import_linker.specs.declared.fault.LinkFault.TheVariants.{Read, Bad, 
 use Rattle.pass_law.specs.Bounds.{capped}
 use Rattle.rv64_image_laws.specs.WordBounds.{word_bounds, IsStackSize}
 use Rattle.rv64_words.specs.Region.{most_words, most_stack}
+use Rattle.rv64_words.specs.State.{Stop}
+use Rattle.rv64_words.specs.declared.trap.Trap.{Trap}
 use Rattle.bril_commands.specs.Arguments.{HasOnlyArgFault, argument_pieces}
 use Rattle.bril_commands.specs.Call.{Call}
 use Rattle.bril_commands.specs.Comes.{SaysAlone, ReadsWell, UnlessMemory, ComesTo}
-use Rattle.bril_commands.specs.Command.{Makes, NeedsProgram, GivesArguments, GivesValues, MakesImage, profile_of, reach, takes_passes}
+use Rattle.bril_commands.specs.Command.{Makes, RefusesOnBytes, NeedsProgram, GivesArguments, GivesValues, MakesImage, profile_of, reach, takes_passes}
 use Rattle.bril_commands.specs.CommandLine.{Asks, AsksFor, AskNothing, IsToldOf}
+use Rattle.bril_commands.specs.Outcome.{ShowsSo}
 use Rattle.bril_commands.specs.PassList.{AreUnused, IsFirstUnknown, IsRefusedPass, IsCutOff}
 use Rattle.bril_commands.specs.Profiles.{IsProfileFrom, RefusesProfileFrom}
 use Rattle.bril_commands.specs.Source.{RefusesFiles, HaveFault, HaveTree, IsTreeAt, LackFile, IsOnlyNameFault, IsOnlyProgram, HasOnlyCheckFault, IsProgramOf}
 use Rattle.bril_commands.specs.Table.{command, KeepsPasses}
-use Rattle.bril_commands.specs.When.{DoneWhere}
+use Rattle.bril_commands.specs.When.{BytesDoneWhere, DoneWhere}
 
 -- What is put on the output and on the error output is given in pieces, of which each is one put. Nothing is put on either after a put
--- on it that failed. In the end the output has handed on all that it held back, where the status is 0, 2 or 3. Which of the two outputs a
+-- on it that failed. In the end the output has handed on all that it held back, where the status is 0, 2, 3 or 4. Which of the two outputs a
 -- piece is put on first isn't said.
 
 -- 0: all was done, and the output took all that the command puts; the error output what it tells.
@@ -77,6 +79,16 @@ pub record GoesOn (c : Call) : Type 0 where
   pub comes : ComesTo c asks (λ o. (steps ≡ o.steps) × o.Shows None told output)
   pub took : WritesAll c.out_before output c.out_after
   pub says : Puts c.err_before (told ++ spent_pieces steps) c.err_after
+
+-- 4: the machine ran the bytes of a file and can't go on, and the output took all that is put.
+pub record Trapped (c : Call) : Type 0 where
+  pub asks : Asks c.words
+  pub trap : Trap
+  pub told : List (List ℕ)
+  pub output : List (List ℕ)
+  pub comes : ComesTo c asks (λ o. o.Traps trap told output)
+  pub took : WritesAll c.out_before output c.out_after
+  pub says : Puts c.err_before (told ++ trap_pieces trap) c.err_after
 
 -- 64: `clap` refuses the words, or takes them and the value of an option fails. No file was read.
 pub record Misused (c : Call) : Type 0 where
@@ -129,26 +141,34 @@ pub record UnacceptedTree (c : Call) (asks : Asks c.words) : Type 0 where
   pub unused : AreUnused c.passes
   pub alone : SaysAlone c (unaccepted_pieces program fault)
 
+-- 65, 68 and 69: the command works on the bytes of its file, and refuses these, or the arguments, so. No pass ran.
+pub record BytesRefused (number : ℕ) (c : Call) (asks : Asks c.words) : Type 0 where
+  pub how : Status
+  pub is : status_number how ≡ number
+  pub refuses : RefusesOnBytes (command asks.action) how c.files_before.holds asks.path asks.args
+  pub unused : AreUnused c.passes
+  pub alone : SaysAlone c (status_pieces how)
+
 pub record SourceRefused (c : Call) : Type 0 where
   pub asks : Asks c.words
-  pub because : MisreadFile c asks ⊎ (LacksFunction c asks ⊎ (RepeatsFunction c asks ⊎ (NeedsProgram (command asks.action) × (MisnamedTree c asks ⊎ UnacceptedTree c asks))))
+  pub because : MisreadFile c asks ⊎ (LacksFunction c asks ⊎ (RepeatsFunction c asks ⊎ ((NeedsProgram (command asks.action) × (MisnamedTree c asks ⊎ UnacceptedTree c asks)) ⊎ BytesRefused 65 c asks)))
 
--- The files are linked into this accepted program, whose arguments the words spell, and the profile has these entries: it can be given to
--- the list of passes.
+-- The files are linked into this accepted program, whose arguments the words spell, and the second file is the profile with these entries, or
+-- a script: it can be given to the list of passes.
 pub record IsReady (c : Call) (asks : Asks c.words) (program : Prog) (entries : List Entry) : Type 0 where
   pub file : IsProgramOf (reach (command asks.action)) c.files_before.holds asks.path program
   pub values : List Value
   pub given : GivesValues (command asks.action) program asks.args values
-  pub profiled : IsProfileFrom (profile_of (command asks.action)) c.profile c.files_before.holds program entries
+  pub profiled : IsProfileFrom (profile_of (command asks.action)) c.second c.files_before.holds program entries
 
--- 66, 67 and 68: the files are linked into an accepted program, whose arguments the words spell, and the file of the profile that the
--- words name is refused so. No pass ran.
+-- 66, 67, 68 and 72: the files are linked into an accepted program, whose arguments the words spell, and the file of the profile or of the
+-- script that the words name is refused so. No pass ran.
 pub record ProfileRefused (c : Call) (asks : Asks c.words) (how : Status) (line : List (List ℕ)) : Type 0 where
   pub program : Prog
   pub file : IsProgramOf (reach (command asks.action)) c.files_before.holds asks.path program
   pub values : List Value
   pub given : GivesValues (command asks.action) program asks.args values
-  pub refuses : RefusesProfileFrom (profile_of (command asks.action)) c.profile how c.files_before c.files_after
+  pub refuses : RefusesProfileFrom (profile_of (command asks.action)) c.second how c.files_before c.files_after
   pub unused : AreUnused c.passes
   pub alone : SaysAlone c line
 
@@ -164,9 +184,15 @@ pub record ProfileMisread (c : Call) : Type 0 where
   pub line : ℕ
   pub refused : ProfileRefused c asks (status.MisreadProfile line) (profile_pieces line)
 
--- 68: the files have too many bytes, or are too many, or the profile's file has too many bytes, and no pass ran; or, of a
--- program that is ready, a pass may make too many items, or what the list makes, which is to be run or emitted, has too many words of code or
--- of stack.
+-- 72: this line of the script's file, from 1, is the first that breaks the form of a script. No pass ran.
+pub record ScriptMisread (c : Call) : Type 0 where
+  pub asks : Asks c.words
+  pub line : ℕ
+  pub refused : ProfileRefused c asks (status.MisreadScript line) (script_pieces line)
+
+-- 68: the files have too many bytes, or are too many, or the file of the profile or of the script has too many bytes, or the bytes of a file
+-- tell of too many words of code or of stack, and no pass ran; or, of a program that is ready, a pass may make too many items, or what the
+-- list makes, which is to be run or emitted, has too many words of code or of stack.
 pub record LongPass (c : Call) (asks : Asks c.words) : Type 0 where
   pub takes : takes_passes (command asks.action) ≡ true
   pub program : Prog
@@ -201,7 +227,7 @@ pub record LongProgram (c : Call) (asks : Asks c.words) : Type 0 where
 
 pub record TooLarge (c : Call) : Type 0 where
   pub asks : Asks c.words
-  pub because : FilesRefused c asks TooManyBytes many_bytes_pieces ⊎ (FilesRefused c asks TooManyFiles many_files_pieces ⊎ (LongProgram c asks ⊎ (LongPass c asks ⊎ ProfileRefused c asks status.ProfileTooLarge long_profile_pieces)))
+  pub because : FilesRefused c asks TooManyBytes many_bytes_pieces ⊎ (FilesRefused c asks TooManyFiles many_files_pieces ⊎ (LongProgram c asks ⊎ (LongPass c asks ⊎ (ProfileRefused c asks status.ProfileTooLarge long_profile_pieces ⊎ (ProfileRefused c asks status.ScriptTooLarge long_script_pieces ⊎ BytesRefused 68 c asks)))))
 
 -- 69: the files are linked into an accepted program, and the arguments don't fit it. No pass ran.
 pub record Misargued (c : Call) : Type 0 where
@@ -213,6 +239,10 @@ pub record Misargued (c : Call) : Type 0 where
   pub only : HasOnlyArgFault (main_types program) asks.args fault
   pub unused : AreUnused c.passes
   pub alone : SaysAlone c (argument_pieces fault)
+
+-- 69: the arguments don't fit a program, or what the bytes of a file are read as.
+abbrev pub ArgumentsRefused : Call → Type 0
+ArgumentsRefused c = Misargued c ⊎ ((asks : Asks c.words) × BytesRefused 69 c asks)
 
 -- 70: the program is ready, and no pass answers to a name of the list, this one being the first such. No pass ran.
 pub record UnknownPass (c : Call) : Type 0 where
@@ -244,11 +274,11 @@ pub record Exhausted (c : Call) : Type 0 where
 -- 74: a put on the output failed, the last of what the command put there; or it took all, and failed to hand on what it held back.
 pub record CannotWrite (c : Call) : Type 0 where
   pub asks : Asks c.words
-  pub ended : Option End
+  pub ended : Option Stop
   pub untold : List (List ℕ)
   pub told : List (List ℕ)
   pub output : List (List ℕ)
-  pub comes : ComesTo c asks (λ o. (told ≡ o.unwritten) × o.Shows ended untold output)
+  pub comes : ComesTo c asks (λ o. (told ≡ o.unwritten) × ShowsSo o ended untold output)
   pub took : WritesSome c.out_before output c.out_after
   pub says : Puts c.err_before (told ++ codes "cannot write\n" ∷ []) c.err_after
 
@@ -258,15 +288,17 @@ Answers status c =
     MatchBool (status == 0) (Finished c)
     (MatchBool (status == 2) (Stopped c)
     (MatchBool (status == 3) (GoesOn c)
+    (MatchBool (status == 4) (Trapped c)
     (MatchBool (status == 64) (Misused c)
     (MatchBool (status == 65) (SourceRefused c)
     (MatchBool (status == 66) (CannotRead c)
     (MatchBool (status == 67) (ProfileMisread c)
     (MatchBool (status == 68) (TooLarge c)
-    (MatchBool (status == 69) (Misargued c)
+    (MatchBool (status == 69) (ArgumentsRefused c)
     (MatchBool (status == 70) (UnknownPass c)
     (MatchBool (status == 71) (Exhausted c)
-    (MatchBool (status == 74) (CannotWrite c) ⊥)))))))))))
+    (MatchBool (status == 72) (ScriptMisread c)
+    (MatchBool (status == 74) (CannotWrite c) ⊥)))))))))))))
 
 -- ---- when a status comes to every command that has its cause
 
@@ -320,14 +352,14 @@ MisarguedWhere number c =
     IsAccepted program → fault ≢ Memory → IsFaultOf (main_types program) reads.args fault →
     UnlessMemory number ((number ≡ 69) × Puts c.err_before (argument_pieces fault) c.err_after)
 
--- This comes, with this line, where the files have a tree whose accepted program takes the arguments, and the profile's file is refused so.
+-- This comes, with this line, where the files have a tree whose accepted program takes the arguments, and the file of the profile or of the script is refused so.
 abbrev pub RefusedWhere : Status → ℕ → List (List ℕ) → ℕ → Call → Type 0
 RefusedWhere how expected line number c =
     (action : Action) (reads : ReadsWell c action) (tree : Tree) (program : Prog) (values : List Value) → HaveTree (reach (command action)) c.files_before.holds reads.path tree → Numbered tree program → IsAccepted program →
-    GivesValues (command action) program reads.args values → RefusesProfileFrom (profile_of (command action)) c.profile how c.files_before c.files_after →
+    GivesValues (command action) program reads.args values → RefusesProfileFrom (profile_of (command action)) c.second how c.files_before c.files_after →
     UnlessMemory number ((number ≡ expected) × Puts c.err_before line c.err_after)
 
--- A profile's file that isn't there is told.
+-- A profile's or a script's file that isn't there is told.
 abbrev pub LackingProfileWhere : ℕ → Call → Type 0
 LackingProfileWhere number c = (path : List ℕ) → RefusedWhere (status.CannotRead path) 66 (unread_pieces path) number c
 
@@ -338,6 +370,20 @@ MisreadProfileWhere number c = (line : ℕ) → RefusedWhere (status.MisreadProf
 -- A profile's file that has too many bytes is told.
 abbrev pub LongProfileWhere : ℕ → Call → Type 0
 LongProfileWhere = RefusedWhere status.ProfileTooLarge 68 long_profile_pieces
+
+-- The first line that breaks the form of a script is told.
+abbrev pub MisreadScriptWhere : ℕ → Call → Type 0
+MisreadScriptWhere number c = (line : ℕ) → RefusedWhere (status.MisreadScript line) 72 (script_pieces line) number c
+
+-- A script's file that has too many bytes is told.
+abbrev pub LongScriptWhere : ℕ → Call → Type 0
+LongScriptWhere = RefusedWhere status.ScriptTooLarge 68 long_script_pieces
+
+-- Why a command refuses the bytes that it works on, or their arguments, is told.
+abbrev pub BytesRefusedWhere : ℕ → Call → Type 0
+BytesRefusedWhere number c =
+    (action : Action) (reads : ReadsWell c action) (how : Status) → how ≢ status.OutOfMemory → RefusesOnBytes (command action) how c.files_before.holds reads.path reads.args →
+    UnlessMemory number ((number ≡ status_number how) × Puts c.err_before (status_pieces how) c.err_after)
 
 -- The passes stay as they are where the words ask for a command that takes no list of them; else they mean the same.
 abbrev pub KeepsWhere : Call → Type 0
@@ -352,9 +398,12 @@ pub record Promises (status : ℕ) (c : Call) : Type 0 where
   -- what each status says
   pub answers : Answers status c
   pub silent : 64 ≤ status → status ≤ 70 → c.out_after ≡ c.out_before
+  pub silent_script : status ≡ 72 → c.out_after ≡ c.out_before
   -- when each status comes; out of memory, 71 comes in place of each
   pub unasked : AskNothing c.words → UnlessMemory status (status ≡ 64)
   pub does : DoneWhere status c
+  pub does_bytes : BytesDoneWhere status c
+  pub refused_bytes : BytesRefusedWhere status c
   pub misargued : MisarguedWhere status c
   pub misread : MisreadWhere status c
   pub misnamed : MisnamedWhere status c
@@ -367,6 +416,8 @@ pub record Promises (status : ℕ) (c : Call) : Type 0 where
   pub lacking_profile : LackingProfileWhere status c
   pub misread_profile : MisreadProfileWhere status c
   pub long_profile : LongProfileWhere status c
+  pub misread_script : MisreadScriptWhere status c
+  pub long_script : LongScriptWhere status c
   pub demo : DemoAccepted status c
   -- what becomes of the passes
   pub keeps : KeepsWhere c

@@ -32,7 +32,7 @@ pub record RunsPastBudget (rows : List Row) (c : Call) (path : List ℕ) (args :
   pub values : List Value
   pub given : AreOnlyValues source args values
   pub entries : List Entry
-  pub profiled : IsProfileAt c.profile c.files_before.holds entries
+  pub profiled : IsProfileAt c.second c.files_before.holds entries
   pub limits : Limits
   pub are : (limits.frames ≡ frames) × (limits.cells ≡ cells)
   pub runs : (numbers : Numbers) (n : ℕ) → AreWithin source numbers → budget rows (length entries) c.passes.names numbers n ≤ words → (state_after source limits values n).ended ≡ None

@@ -6,7 +6,7 @@ use Rattle.bril_words.specs.CommandLine.{words_ask}
 use Rattle.bril_words.specs.Names.{names_of}
 use Rattle.pass_law.specs.Meaning.{Meaning}
 use Rattle.pass_law.specs.declared.tally.Tally.{Tally}
-use Rattle.bril_commands.specs.CommandLine.{list_asked, profile_asked}
+use Rattle.bril_commands.specs.CommandLine.{list_asked, second_asked}
 use Rattle.bril_commands.specs.PassList.{PassList, pass_list}
 
 -- What is seen of a call: its words, and its files, its two outputs and the passes that it was lent before and after it.
@@ -19,8 +19,8 @@ pub record Call : Type 1 where
   pub err_before : SinkSeen
   pub err_after : SinkSeen
   pub passes : PassList
-  -- the path of the file with the profile that the words name
-  pub profile : Option (List ℕ)
+  -- the path of the second file that the words name, that of a profile or of a script
+  pub second : Option (List ℕ)
 
 abbrev pub call_of : {B : Type 0} → List (List ℕ) → FilesSeen → FilesSeen → SinkSeen → SinkSeen → SinkSeen → SinkSeen → (B → Meaning) → (B → Tally) → List B → List B → Call
 call_of words files files' out out' err err' meaning counts passes passes' = record {
@@ -32,5 +32,5 @@ call_of words files files' out out' err err' meaning counts passes passes' = rec
   err_before = err;
   err_after = err';
   passes = pass_list meaning counts passes passes' (names_of (list_asked (words_ask words)));
-  profile = profile_asked (words_ask words);
+  second = second_asked (words_ask words);
 }

@@ -1,6 +1,7 @@
 -- What a command is: what it works on, and what this comes to.
-use Rattle.std.specs.Prelude.{ℕ, ◌≡◌, Bool, true, false, List, []}
+use Rattle.std.specs.Prelude.{ℕ, ◌≡◌, ◌⊎◌, Bool, true, false, List, [], Option}
 use Rattle.bril_arguments.specs.Spelled.{AreSpelled}
+use Rattle.bril_outside.specs.Files.{FileMap}
 use Rattle.bril_profile.specs.declared.profile.Entry.{Entry}
 use Rattle.bril_report.specs.declared.status.Status.{Status}
 use Rattle.bril_tree.specs.Run.{main_types}
@@ -14,7 +15,8 @@ use Rattle.bril_commands.specs.Images.{RefusesImage}
 use Rattle.bril_commands.specs.Outcome.{Outcome}
 use Rattle.bril_commands.specs.PassList.{PassList, IsMade, RefusesList, AreFactorsOf, AreEnoughFor}
 use Rattle.bril_commands.specs.Profiles.{ProfileSource, NoProfile}
-use Rattle.bril_commands.specs.Source.{Reach, Alone, WithImports, OfDemo}
+use Rattle.bril_commands.specs.Source.{Reach, Alone, WithImports, BytesAlone, OfDemo, HoldsBytes}
+use Rattle.monitor_script.specs.declared.order.Order.{Order}
 
 -- ---- the arguments
 
@@ -92,7 +94,7 @@ RefusesEmission emission how q = (limits : Limits) × AreLimitsOf emission limit
 -- ---- the command
 
 -- what a command works on that needs a program: the passes, the program of its files, what the passes make of it and by which factors, how
--- many words are always enough for that program's steps, and the values of the arguments
+-- many words are always enough for that program's steps, the values of the arguments, and what may be the orders of its script
 pub record Subject : Type 1 where
   pub passes : PassList
   pub source : Prog
@@ -100,6 +102,7 @@ pub record Subject : Type 1 where
   pub IsFactor : ℕ → Type 0
   pub AreEnough : (steps words : ℕ) → Type 0
   pub values : List Value
+  pub IsScript : List Order → Type 0
 
 -- where a command has its program from
 pub data Origin : Type 0 where
@@ -129,51 +132,81 @@ pub record OfSource : Type 1 where
 abbrev pub as_it_stands : OfSource → OfProgram
 as_it_stands does = record { arguments = does.arguments; profile = NoProfile; takes_passes = false; emission = NoImage; outcome = λ on. does.outcome on.source on.values }
 
--- A command works on the tree of its one file, on that of all files which are linked with it, or on the accepted program of the latter
--- or of the demo's tree.
+-- What is done with the bytes of a file, whatever its path ends in.
+pub record OfBytes : Type 1 where
+  -- what the bytes are read as
+  pub Read : Type 0
+  pub AreRead : (bytes : List ℕ) → Read → Type 0
+  -- why those of the file at a path are read as nothing
+  pub RefusesBytes : Status → (path bytes : List ℕ) → Type 0
+  -- the values of the arguments, or why words give none
+  pub AreGiven : Read → List (List ℕ) → List Value → Type 0
+  pub RefusesArguments : Status → Read → List (List ℕ) → Type 0
+  pub outcome : Read → List Value → Outcome
+
+-- A command works on the bytes of its one file, on the tree of it, on that of all files which are linked with it, or on the accepted program
+-- of the latter or of the demo's tree.
 pub data Command : Type 1 where
+  OnBytes : OfBytes → Command
   OnFile : (outcome : Tree → Outcome) → Command
   OnTree : (outcome : Tree → Outcome) → Command
   OnProgram : (origin : Origin) → OfProgram → Command
 
 -- the files that it reads
 abbrev pub reach : Command → Reach
+reach (OnBytes does) = BytesAlone
 reach (OnFile outcome) = Alone
 reach (OnTree outcome) = WithImports
 reach (OnProgram origin does) = reach_of origin
 
 -- it needs the accepted program
 abbrev pub NeedsProgram : Command → Type 0
+NeedsProgram (OnBytes does) = ⊥
 NeedsProgram (OnFile outcome) = ⊥
 NeedsProgram (OnTree outcome) = ⊥
 NeedsProgram (OnProgram origin does) = Unit {0}
 
--- it gives the program arguments
+-- it gives a program arguments
 abbrev pub GivesArguments : Command → Type 0
+GivesArguments (OnBytes does) = ⊥
 GivesArguments (OnFile outcome) = ⊥
 GivesArguments (OnTree outcome) = ⊥
 GivesArguments (OnProgram origin does) = TakesArguments does.arguments
 
 -- these values are the arguments that words spell of the program that it needs
 abbrev pub GivesValues : Command → Prog → List (List ℕ) → List Value → Type 0
+GivesValues (OnBytes does) p args values = ⊥
 GivesValues (OnFile outcome) p args values = ⊥
 GivesValues (OnTree outcome) p args values = ⊥
 GivesValues (OnProgram origin does) p args values = Spell does.arguments p args values
 
--- where it has its profile from
+-- where it has its profile from, or its script
 abbrev pub profile_of : Command → ProfileSource
+profile_of (OnBytes does) = NoProfile
 profile_of (OnFile outcome) = NoProfile
 profile_of (OnTree outcome) = NoProfile
 profile_of (OnProgram origin does) = does.profile
 
 -- it takes a list of passes
 abbrev pub takes_passes : Command → Bool
+takes_passes (OnBytes does) = false
 takes_passes (OnFile outcome) = false
 takes_passes (OnTree outcome) = false
 takes_passes (OnProgram origin does) = does.takes_passes
 
 -- it makes an image for these limits
 abbrev pub MakesImage : Command → Limits → Type 0
+MakesImage (OnBytes does) limits = ⊥
 MakesImage (OnFile outcome) limits = ⊥
 MakesImage (OnTree outcome) limits = ⊥
 MakesImage (OnProgram origin does) limits = AreLimitsOf does.emission limits
+
+-- Where it works on bytes, this is why it refuses those of the file at a path, which are few enough, or these arguments.
+pub record RefusesHeld (does : OfBytes) (how : Status) (holds : Option FileMap) (path : List ℕ) (args : List (List ℕ)) : Type 0 where
+  pub bytes : List ℕ
+  pub held : HoldsBytes holds path bytes
+  pub because : does.RefusesBytes how path bytes ⊎ ((read : does.Read) × does.AreRead bytes read × does.RefusesArguments how read args)
+
+abbrev pub RefusesOnBytes : Command → Status → Option FileMap → List ℕ → List (List ℕ) → Type 0
+RefusesOnBytes (OnBytes does) how holds path args = RefusesHeld does how holds path args
+RefusesOnBytes _ how holds path args = ⊥

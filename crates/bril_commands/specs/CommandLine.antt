@@ -9,7 +9,7 @@ use Rattle.bril_words.specs.declared.subcommands.Action.TheVariants as action
 
 -- the words ask for an action, the path of its file, and the arguments of the file's program
 abbrev pub AsksFor : List (List ℕ) → Action → List ℕ → List (List ℕ) → Type 0
-AsksFor words action path args = (list : List ℕ) × (profile : Option (List ℕ)) × (words_ask words ≡ asked action path list profile args)
+AsksFor words action path args = (list : List ℕ) × (second : Option (List ℕ)) × (words_ask words ≡ asked action path list second args)
 
 -- What words ask for.
 pub record Asks (words : List (List ℕ)) : Type 0 where
@@ -32,10 +32,10 @@ abbrev pub list_asked : Result Asked Refusal → List ℕ
 list_asked (Ok request) = list_for request.action request.list
 list_asked (Err refusal) = []
 
--- the path of the file with the profile that is asked for
-abbrev pub profile_asked : Result Asked Refusal → Option (List ℕ)
-profile_asked (Ok request) = request.profile
-profile_asked (Err refusal) = None
+-- the path of the second file that is asked for, that of a profile or of a script
+abbrev pub second_asked : Result Asked Refusal → Option (List ℕ)
+second_asked (Ok request) = request.second
+second_asked (Err refusal) = None
 
 -- the words ask for nothing
 abbrev pub AskNothing : List (List ℕ) → Type 0

@@ -14,6 +14,7 @@ pub mod ProfileFiles
 pub mod Profiles
 pub mod Recording
 pub mod RunIsCorrect
+pub mod Scripts
 pub mod Source
 pub mod Sources
 pub mod Stages

@@ -56,7 +56,7 @@ pub record AsksToRun (c : Call) : Type 0 where
   pub spelled : AreSpelled (main_types source) args values
   -- these are the entries of the profile that the words name; where they name none, there are none
   pub entries : List Entry
-  pub profiled : IsProfileAt c.profile (Some files) entries
+  pub profiled : IsProfileAt c.second (Some files) entries
   -- each name of the list of passes that the words give is one to which a pass answers
   pub known : IsFirstUnknown c.passes None
   -- no write to the output failed

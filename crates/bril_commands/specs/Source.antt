@@ -28,6 +28,8 @@ pub data Reach : Type 0 where
   Alone : Reach
   -- that one, and all that it imports, and that these import
   WithImports : Reach
+  -- the bytes of the one at its path, which are no tree to it
+  BytesAlone : Reach
   -- none: it makes the demo program of so many functions
   OfDemo : (functions : ℕ) → Reach
 
@@ -38,16 +40,28 @@ pub record IsFileTree (holds : Option FileMap) (path : List ℕ) (tree : Tree) :
   pub short : length bytes ≤ most_bytes
   pub only : IsOnlyTree (format_of path) bytes tree
 
+-- Few enough bytes are at the path, these, which are those that the files hold where they tell it.
+pub record HoldsBytes (holds : Option FileMap) (path bytes : List ℕ) : Type 0 where
+  pub held : MayHold holds path bytes
+  pub short : length bytes ≤ most_bytes
+
 -- the tree is that of the files of a command with this path, or the demo's
 abbrev pub IsTreeAt : Reach → Option FileMap → List ℕ → Tree → Type 0
 IsTreeAt Alone holds path tree = IsFileTree holds path tree
 IsTreeAt WithImports holds path tree = Linked holds path tree
+IsTreeAt BytesAlone holds path tree = ⊥
 IsTreeAt (OfDemo functions) holds path tree = tree ≡ demo_tree functions
+
+-- why the bytes of the file at a path weren't read
+abbrev pub RefusesBytes : LinkFault → FilesSeen → FilesSeen → List ℕ → Type 0
+RefusesBytes (fault.Bad other why) before after path = ⊥
+RefusesBytes why before after path = RefusesSource why before after path most_bytes
 
 -- why they have none
 abbrev pub RefusesFiles : Reach → LinkFault → FilesSeen → FilesSeen → List ℕ → Type 0
 RefusesFiles Alone why before after path = RefusesSource why before after path most_bytes
 RefusesFiles WithImports why before after path = RefusesLink why before after path
+RefusesFiles BytesAlone why before after path = RefusesBytes why before after path
 RefusesFiles (OfDemo functions) why before after path = why ≡ fault.Memory
 
 -- ---- the same where the files are told
@@ -56,6 +70,7 @@ RefusesFiles (OfDemo functions) why before after path = why ≡ fault.Memory
 abbrev pub AreTold : Reach → Option FileMap → Type 0
 AreTold Alone holds = (map : FileMap) × (holds ≡ Some map)
 AreTold WithImports holds = (map : FileMap) × (holds ≡ Some map)
+AreTold BytesAlone holds = (map : FileMap) × (holds ≡ Some map)
 AreTold (OfDemo functions) holds = Unit {0}
 
 -- few enough bytes are at the path, and read as this tree
@@ -69,6 +84,7 @@ pub record HoldsTree (holds : Option FileMap) (path : List ℕ) (tree : Tree) : 
 abbrev pub HaveTree : Reach → Option FileMap → List ℕ → Tree → Type 0
 HaveTree Alone holds path tree = HoldsTree holds path tree
 HaveTree WithImports holds path tree = Linked holds path tree
+HaveTree BytesAlone holds path tree = ⊥
 HaveTree (OfDemo functions) holds path tree = tree ≡ demo_tree functions
 
 -- few enough bytes are at the path, and have this fault
@@ -87,12 +103,14 @@ FileHasFault why before after path = RefusesSource why before after path most_by
 abbrev pub HaveFault : Reach → LinkFault → FilesSeen → FilesSeen → List ℕ → Type 0
 HaveFault Alone why before after path = FileHasFault why before after path
 HaveFault WithImports why before after path = RefusesLink why before after path
+HaveFault BytesAlone why before after path = RefusesBytes why before after path
 HaveFault (OfDemo functions) why before after path = ⊥
 
 -- the file at a path is the next to be read, by a command with this one
 abbrev pub IsNextFile : Reach → Option FileMap → (root path : List ℕ) → Type 0
 IsNextFile Alone holds root path = path ≡ root
 IsNextFile WithImports holds root path = (done : List Source) × StopsAt holds root path done
+IsNextFile BytesAlone holds root path = path ≡ root
 IsNextFile (OfDemo functions) holds root path = ⊥
 
 -- The files are told; those before the one at a path were read, and it isn't there.

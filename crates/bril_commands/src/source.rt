@@ -1,11 +1,12 @@
-// The tree of a command's files.
+// The tree of a command's files, or the bytes of its one file.
 
 ghost use Rattle.std.specs.Prelude.{◌≡◌, ◌≤◌, IfOk, IfErr};
-ghost use Rattle.bril_commands.specs.Source.{Alone, WithImports, IsTreeAt};
+ghost use Rattle.bril_commands.specs.Source.{Alone, BytesAlone, HoldsBytes, WithImports, IsTreeAt};
 ghost use Rattle.bril_commands.specs.Stages.{RefusesTree};
 
-use bril_outside::files::Files;
+use bril_outside::files::{FileFault, Files};
 use bril_report::Status;
+use bril_tree::bytes::Bytes;
 use bril_tree::text::Text;
 use bril_tree::tree::Tree;
 use import_linker::{link, read_source};
@@ -13,6 +14,25 @@ use std::alloc::Global;
 
 // The most bytes that a file may have.
 const MOST_BYTES: u64 = 16777216;
+
+/// The bytes of the one file at the path, of at most 16,777,216, whatever the path ends in.
+///
+/// The first of `CannotRead`: the file is not there, or reading it failed; `TooManyBytes`: it has more bytes.
+pub fn file_bytes<F: Files>(alloc: Global, path: &str, files: &mut F) -> Result<Bytes, Status>
+    ensures holds { (F.seen files.new).holds ≡ (F.seen files.old).holds }
+    ensures faults { (F.seen files.old).faults ≤ (F.seen files.new).faults }
+    ensures ok { IfOk result (λ bytes. HoldsBytes (F.seen files.old).holds path.now bytes) }
+    ensures err { IfErr result (λ status. RefusesTree BytesAlone status (F.seen files.old) (F.seen files.new) path.now) }
+{
+    let path = Text::of(alloc, path)?;
+    let mut bytes = Bytes::new(alloc);
+    match files.read(alloc, &path, MOST_BYTES, &mut bytes) {
+        Ok(true) => Ok(bytes),
+        Ok(false) => Err(Status::TooManyBytes),
+        Err(FileFault::Failed) => Err(Status::CannotRead { path }),
+        Err(FileFault::Memory) => Err(Status::OutOfMemory),
+    }
+}
 
 /// The tree of the one file at the path, of at most 16,777,216 bytes, which are read in the format that its path names.
 ///

@@ -1,11 +1,12 @@
-// What is done with a tree, and with a program as it stands: commands that take no list of passes.
+// What is done with bytes, with a tree, and with a program as it stands: commands that take no list of passes.
 
-ghost use Rattle.std.specs.Prelude.{[]};
-ghost use Rattle.bril_commands.specs.Driver.{DoesSource};
+ghost use Rattle.std.specs.Prelude.{◌≤◌, [], length};
+ghost use Rattle.bril_commands.specs.Driver.{DoesHeld, DoesSource};
 ghost use Rattle.bril_commands.specs.Outcome.{Works};
-ghost use Rattle.bril_commands.specs.Table.{on_file, on_source, on_tree};
+ghost use Rattle.bril_commands.specs.Table.{on_bytes, on_file, on_source, on_tree};
 ghost use Rattle.bril_report.specs.StageFaults.{status_of};
 ghost use Rattle.bril_words.specs.Request.{IsSourceInRange};
+ghost use Rattle.import_linker.specs.formats.Reading.{most_bytes};
 
 use bril_checker::Checked;
 use bril_commands::commands::check::put_counts;
@@ -17,8 +18,28 @@ use bril_outside::sink::Sink;
 use bril_report::Status;
 use bril_tree::text::Text;
 use bril_tree::tree::Tree;
-use bril_words::{FileAction, SourceAction, TreeAction};
+use bril_words::{BytesAction, FileAction, SourceAction, TreeAction};
+use bytes_commands::assemble::put_assembled;
+use bytes_commands::execute::execute;
 use std::alloc::Global;
+
+// Does this with the bytes of the file at a path.
+pub fn on_bytes<O: Sink>(
+    alloc: Global,
+    action: BytesAction,
+    path: &str,
+    bytes: &[u8],
+    args: &[Text],
+    out: &mut O,
+) -> Result<(), Status>
+    requires { length bytes.now ≤ most_bytes }
+    ensures { DoesHeld (on_bytes action) (status_of result) path.now bytes.now args.now [] (O.seen out.old) (O.seen out.new) }
+{
+    match action {
+        BytesAction::Assemble => put_assembled(alloc, path, bytes, out),
+        BytesAction::Execute(settings) => execute(alloc, path, bytes, args, settings, out),
+    }
+}
 
 // Does this with the tree of a file.
 pub fn on_file<O: Sink>(

@@ -15,6 +15,8 @@ use Rattle.bril_text.specs.declared.fault.TextFault.TheVariants as text
 use Rattle.bril_words.specs.declared.misuse.Misuse.{Misuse}
 use Rattle.bril_words.specs.declared.misuse.Misuse.TheVariants.{Words, Value, Functions, Memory}
 use Rattle.bril_words.specs.declared.options.Setting.TheVariants.{Passes, Profile, Frames, Cells, Steps, Hot, Most}
+use Rattle.rv64_words.specs.declared.trap.Trap.{Trap}
+use Rattle.rv64_words.specs.declared.trap.Trap.TheVariants as trap
 use Rattle.bril_report.specs.declared.report.FaultPlace.{FaultPlace}
 
 -- the kind of a fault of the text, by its number
@@ -107,6 +109,22 @@ fault_line fault.Frames = codes "fault 8 Frames\n"
 fault_line fault.Cells = codes "fault 9 Cells\n"
 fault_line fault.PtrRange = codes "fault 10 PtrRange\n"
 fault_line fault.Allocs = codes "fault 11 Allocs\n"
+
+-- the kind of a trap of the machine, by its number
+abbrev pub trap_kind : Trap → ℕ
+trap_kind (trap.Fetch pc) = 1
+trap_kind (trap.Word pc) = 2
+trap_kind (trap.Address pc at) = 3
+trap_kind (trap.Call pc number) = 4
+trap_kind (trap.NoScalar pc value) = 5
+
+-- the pc of the word at which it comes
+abbrev pub trap_pc : Trap → ℕ
+trap_pc (trap.Fetch pc) = pc
+trap_pc (trap.Word pc) = pc
+trap_pc (trap.Address pc at) = pc
+trap_pc (trap.Call pc number) = pc
+trap_pc (trap.NoScalar pc value) = pc
 
 -- words that ask for nothing: the text of `clap`, or the option whose value fails
 abbrev pub misuse_line : Misuse → List ℕ

@@ -5,36 +5,43 @@ use Rattle.bril_tree.specs.declared.program.Prog.{Prog}
 use Rattle.bril_checker.specs.declared.fault.CheckFault.{CheckFault}
 use Rattle.bril_checker.specs.declared.fault.CheckFault.TheVariants as check
 use Rattle.bril_names.specs.declared.fault.NameFault.{NameFault}
+use Rattle.rv64_words.specs.declared.trap.Trap.{Trap}
 use Rattle.bril_report.specs.declared.report.FaultPlace.{FaultPlace}
 use Rattle.import_linker.specs.declared.formats.fault.ReadFault.{ReadFault}
 use Rattle.import_linker.specs.declared.formats.fault.ReadFault.TheVariants.{Text, Json}
 use Rattle.bril_report.specs.declared.status.Status.{Status}
 use Rattle.bril_report.specs.declared.status.Status.TheVariants as status
-use Rattle.bril_report.specs.Lines.{text_front, text_position, position_of, number_or_dash, json_front, json_position, name_front, name_position, variable_name, fault_line, misuse_line}
+use Rattle.bril_report.specs.Lines.{text_front, text_position, position_of, number_or_dash, json_front, json_position, name_front, name_position, variable_name, fault_line, misuse_line, trap_kind, trap_pc}
 
 -- the number of a status
 abbrev pub status_number : Status → ℕ
 status_number status.Done = 0
 status_number (status.Faulted fault) = 2
 status_number (status.Spent steps) = 3
+status_number (status.Trapped trap) = 4
 status_number (status.Misused misuse) = 64
 status_number (status.Misread path fault) = 65
 status_number (status.NotThere path name) = 65
 status_number (status.Clash path name) = 65
 status_number (status.Misnamed fault) = 65
 status_number (status.Unaccepted program fault) = 65
+status_number (status.MisreadListing path line) = 65
+status_number (status.MisreadElf path at) = 65
 status_number (status.CannotRead path) = 66
 status_number (status.MisreadProfile line) = 67
 status_number status.TooManyBytes = 68
 status_number status.TooManyFiles = 68
 status_number status.ProfileTooLarge = 68
+status_number status.ScriptTooLarge = 68
 status_number (status.CodeTooBig words) = 68
 status_number (status.StackTooBig words) = 68
 status_number (status.PassTooLarge place bound) = 68
 status_number (status.ArgumentCount given wanted) = 69
 status_number (status.BadArgument position) = 69
+status_number (status.ArgumentRoom given room) = 69
 status_number (status.UnknownPass place) = 70
 status_number status.OutOfMemory = 71
+status_number (status.MisreadScript line) = 72
 status_number status.CannotWrite = 74
 
 -- ---- the pieces of a line, each for one put
@@ -83,6 +90,13 @@ unaccepted_pieces p check.MainType = main_pieces p.main
 unaccepted_pieces p (check.PrintPtr func item) = item_pieces (codes "check 8 function ") func item
 unaccepted_pieces p check.Memory = codes "check 0 function - item -\n" ∷ []
 
+-- the first line, from 1, of the file at a path that tells no word, and the byte offset at which it is no ELF file of an image first
+abbrev pub listing_pieces : List ℕ → ℕ → List (List ℕ)
+listing_pieces path line = path ∷ codes ": listing " ∷ decimal line ∷ codes "\n" ∷ []
+
+abbrev pub elf_pieces : List ℕ → ℕ → List (List ℕ)
+elf_pieces path at = path ∷ codes ": elf " ∷ decimal at ∷ codes "\n" ∷ []
+
 -- a path at which nothing could be read
 abbrev pub unread_pieces : List ℕ → List (List ℕ)
 unread_pieces path = codes "cannot read " ∷ path ∷ codes "\n" ∷ []
@@ -101,6 +115,13 @@ long_profile_pieces = codes "too large: profile\n" ∷ []
 abbrev pub profile_pieces : ℕ → List (List ℕ)
 profile_pieces line = number_pieces (codes "profile line ") line
 
+-- a script with too many bytes, and the first line, from 1, that breaks the form of a script
+abbrev pub long_script_pieces : List (List ℕ)
+long_script_pieces = codes "too large: script\n" ∷ []
+
+abbrev pub script_pieces : ℕ → List (List ℕ)
+script_pieces line = number_pieces (codes "script line ") line
+
 -- the words of code, and of stack, that a program would have
 abbrev pub code_pieces : ℕ → List (List ℕ)
 code_pieces words = number_pieces (codes "too large: code ") words
@@ -116,6 +137,10 @@ pass_pieces place bound = codes "too large: pass " ∷ decimal place ∷ codes "
 abbrev pub count_pieces : ℕ → ℕ → List (List ℕ)
 count_pieces given wanted = codes "arguments: " ∷ decimal given ∷ codes " given, " ∷ decimal wanted ∷ codes " wanted\n" ∷ []
 
+-- so many arguments, and how many a stack has room for
+abbrev pub room_pieces : ℕ → ℕ → List (List ℕ)
+room_pieces given room = codes "arguments: " ∷ decimal given ∷ codes " given, " ∷ decimal room ∷ codes " room\n" ∷ []
+
 -- the position, from 1, of an argument that spells no value of its type
 abbrev pub spelling_pieces : ℕ → List (List ℕ)
 spelling_pieces position = number_pieces (codes "argument ") position
@@ -128,17 +153,24 @@ unknown_pass_pieces place = number_pieces (codes "unknown pass ") place
 abbrev pub spent_pieces : ℕ → List (List ℕ)
 spent_pieces steps = number_pieces (codes "spent ") steps
 
+-- the kind of a trap, by its number, and its pc
+abbrev pub trap_pieces : Trap → List (List ℕ)
+trap_pieces trap = codes "trap " ∷ decimal (trap_kind trap) ∷ codes " pc " ∷ decimal (trap_pc trap) ∷ codes "\n" ∷ []
+
 -- the line of a status; none where all was done
 abbrev pub status_pieces : Status → List (List ℕ)
 status_pieces status.Done = []
 status_pieces (status.Faulted fault) = fault_line fault ∷ []
 status_pieces (status.Spent steps) = spent_pieces steps
+status_pieces (status.Trapped trap) = trap_pieces trap
 status_pieces (status.Misused misuse) = misuse_line misuse ∷ []
 status_pieces (status.Misread path fault) = misread_pieces path fault
 status_pieces (status.NotThere path name) = not_there_pieces path name
 status_pieces (status.Clash path name) = clash_pieces path name
 status_pieces (status.Misnamed fault) = misnamed_pieces fault
 status_pieces (status.Unaccepted program fault) = unaccepted_pieces program fault
+status_pieces (status.MisreadListing path line) = listing_pieces path line
+status_pieces (status.MisreadElf path at) = elf_pieces path at
 status_pieces (status.CannotRead path) = unread_pieces path
 status_pieces status.TooManyBytes = many_bytes_pieces
 status_pieces status.TooManyFiles = many_files_pieces
@@ -147,8 +179,11 @@ status_pieces (status.StackTooBig words) = stack_pieces words
 status_pieces (status.PassTooLarge place bound) = pass_pieces place bound
 status_pieces (status.ArgumentCount given wanted) = count_pieces given wanted
 status_pieces (status.BadArgument position) = spelling_pieces position
+status_pieces (status.ArgumentRoom given room) = room_pieces given room
 status_pieces status.ProfileTooLarge = long_profile_pieces
 status_pieces (status.MisreadProfile line) = profile_pieces line
+status_pieces status.ScriptTooLarge = long_script_pieces
+status_pieces (status.MisreadScript line) = script_pieces line
 status_pieces (status.UnknownPass place) = unknown_pass_pieces place
 status_pieces status.OutOfMemory = codes "out of memory\n" ∷ []
 status_pieces status.CannotWrite = codes "cannot write\n" ∷ []

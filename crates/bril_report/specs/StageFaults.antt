@@ -1,5 +1,5 @@
 -- The status of each stage's fault, and of how a command ended.
-use Rattle.std.specs.Prelude.{Result, Ok, Err}
+use Rattle.std.specs.Prelude.{ℕ, List, Result, Ok, Err}
 use Rattle.bril_arguments.specs.declared.fault.ArgFault.{ArgFault}
 use Rattle.bril_arguments.specs.declared.fault.ArgFault.TheVariants as argument
 use Rattle.bril_checker.specs.declared.fault.CheckFault.{CheckFault}
@@ -11,12 +11,18 @@ use Rattle.bril_report.specs.declared.status.Status.TheVariants as status
 use Rattle.bril_tree.specs.declared.program.Prog.{Prog}
 use Rattle.bril_words.specs.declared.misuse.Misuse.{Misuse}
 use Rattle.bril_words.specs.declared.misuse.Misuse.TheVariants as misuse
+use Rattle.elf_wrap.specs.declared.fault.ElfFault.{ElfFault}
+use Rattle.elf_wrap.specs.declared.fault.ElfFault.TheVariants as elf
 use Rattle.import_linker.specs.declared.fault.LinkFault.{LinkFault}
 use Rattle.import_linker.specs.declared.fault.LinkFault.TheVariants as link
+use Rattle.monitor_script.specs.declared.fault.ScriptFault.{ScriptFault}
+use Rattle.monitor_script.specs.declared.fault.ScriptFault.TheVariants as script
 use Rattle.pass_law.specs.declared.fault.ListFault.{ListFault}
 use Rattle.pass_law.specs.declared.fault.ListFault.TheVariants as list
 use Rattle.profile_text.specs.declared.fault.ProfileFault.{ProfileFault}
 use Rattle.profile_text.specs.declared.fault.ProfileFault.TheVariants as profile
+use Rattle.rv64_listing.specs.declared.fault.ListingFault.{ListingFault}
+use Rattle.rv64_listing.specs.declared.fault.ListingFault.TheVariants as listing
 use Rattle.rv64_words.specs.declared.fault.EmitFault.{EmitFault}
 use Rattle.rv64_words.specs.declared.fault.EmitFault.TheVariants as emit
 
@@ -86,3 +92,20 @@ abbrev pub emit_status : EmitFault → Status
 emit_status (emit.CodeTooBig words) = status.CodeTooBig words
 emit_status (emit.StackTooBig words) = status.StackTooBig words
 emit_status emit.Memory = status.OutOfMemory
+
+-- the status of a fault of a listing, with the path of the file that has it
+abbrev pub listing_status : List ℕ → ListingFault → Status
+listing_status path (listing.Line line) = status.MisreadListing path line
+listing_status path listing.Memory = status.OutOfMemory
+
+-- the status of a fault of an ELF file, with its path
+abbrev pub elf_status : List ℕ → ElfFault → Status
+elf_status path (elf.At at) = status.MisreadElf path at
+elf_status path (elf.CodeTooBig words) = status.CodeTooBig words
+elf_status path (elf.StackTooBig words) = status.StackTooBig words
+elf_status path elf.Memory = status.OutOfMemory
+
+-- the status of a fault of a monitor's script
+abbrev pub script_status : ScriptFault → Status
+script_status (script.Line line) = status.MisreadScript line
+script_status script.Memory = status.OutOfMemory

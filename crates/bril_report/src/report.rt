@@ -2,8 +2,8 @@
 
 ghost use Rattle.std.specs.Prelude.{◌≡◌, [], ◌∷◌, ◌++◌, codes, None, Some, IfOk, IfErr};
 ghost use Rattle.std.specs.Fmt.{decimal};
-ghost use Rattle.bril_report.specs.Lines.{text_front, text_position, json_front, json_position, name_front, name_position, number_or_dash, position_of, variable_name, fault_line, misuse_line};
-ghost use Rattle.bril_report.specs.Report.{status_number, status_pieces, position_pieces, number_pieces, misread_pieces, misnamed_pieces, item_pieces, main_pieces, unassigned_pieces, unaccepted_pieces, count_pieces, pass_pieces};
+ghost use Rattle.bril_report.specs.Lines.{text_front, text_position, json_front, json_position, name_front, name_position, number_or_dash, position_of, variable_name, fault_line, misuse_line, trap_kind, trap_pc};
+ghost use Rattle.bril_report.specs.Report.{status_number, status_pieces, position_pieces, number_pieces, misread_pieces, misnamed_pieces, item_pieces, main_pieces, unassigned_pieces, unaccepted_pieces, count_pieces, pass_pieces, trap_pieces, room_pieces};
 ghost use Rattle.bril_report.specs.Told.{Tells};
 
 use crate::error_output::ErrorOutput;
@@ -20,6 +20,7 @@ use bril_tree::text::Text;
 use bril_words::{Misuse, Setting};
 use import_linker::formats::ReadFault;
 use itoa::Buffer;
+use rv64_words::trap::Trap;
 use std::alloc::AllocError;
 
 // A function and an item by their numbers, where a fault stands in one.
@@ -37,23 +38,29 @@ pub fn status_number(status: &Status) -> u8
         Status::Done => 0,
         Status::Faulted { .. } => 2,
         Status::Spent { .. } => 3,
+        Status::Trapped { .. } => 4,
         Status::Misused { .. } => 64,
         Status::Misread { .. }
         | Status::NotThere { .. }
         | Status::Clash { .. }
         | Status::Misnamed { .. }
-        | Status::Unaccepted { .. } => 65,
+        | Status::Unaccepted { .. }
+        | Status::MisreadListing { .. }
+        | Status::MisreadElf { .. } => 65,
         Status::CannotRead { .. } => 66,
         Status::MisreadProfile { .. } => 67,
         Status::TooManyBytes
         | Status::TooManyFiles
         | Status::ProfileTooLarge
+        | Status::ScriptTooLarge
         | Status::CodeTooBig { .. }
         | Status::StackTooBig { .. }
         | Status::PassTooLarge { .. } => 68,
-        Status::ArgumentCount { .. } | Status::BadArgument { .. } => 69,
+        Status::ArgumentCount { .. } | Status::BadArgument { .. } | Status::ArgumentRoom { .. } =>
+            69,
         Status::UnknownPass { .. } => 70,
         Status::OutOfMemory => 71,
+        Status::MisreadScript { .. } => 72,
         Status::CannotWrite => 74,
     }
 }
@@ -78,12 +85,20 @@ pub fn say<E: Sink>(err: &mut ErrorOutput<'_, E>, status: &Status)
         Status::Done => {}
         Status::Faulted { fault } => err.put(fault_line(*fault)),
         Status::Spent { steps } => put_number(err, b"spent ", *steps),
+        Status::Trapped { trap } => put_trap(err, *trap),
         Status::Misused { misuse } => err.put(misuse_line(misuse)),
         Status::Misread { path, fault } => put_misread(err, path.as_bytes(), *fault),
         Status::NotThere { path, name } => put_name(err, b"link 3 ", path, name),
         Status::Clash { path, name } => put_name(err, b"link 4 ", path, name),
         Status::Misnamed { fault } => put_misnamed(err, *fault),
         Status::Unaccepted { program, fault } => put_unaccepted(err, program, *fault),
+        Status::MisreadListing { path, line } => put_at(
+            err,
+            path.as_bytes(),
+            b": listing ",
+            u64::from(*line),
+        ),
+        Status::MisreadElf { path, at } => put_at(err, path.as_bytes(), b": elf ", *at),
         Status::CannotRead { path } => err.put_all(&[b"cannot read ", path.as_bytes(), b"\n"]),
         Status::TooManyBytes => err.put(b"too large: bytes\n"),
         Status::TooManyFiles => err.put(b"too large: files\n"),
@@ -92,8 +107,11 @@ pub fn say<E: Sink>(err: &mut ErrorOutput<'_, E>, status: &Status)
         Status::PassTooLarge { place, bound } => put_bound(err, *place, *bound),
         Status::ArgumentCount { given, wanted } => put_counts(err, *given, *wanted),
         Status::BadArgument { position } => put_number(err, b"argument ", u64::from(*position)),
+        Status::ArgumentRoom { given, room } => put_room(err, *given, *room),
         Status::ProfileTooLarge => err.put(b"too large: profile\n"),
         Status::MisreadProfile { line } => put_number(err, b"profile line ", u64::from(*line)),
+        Status::ScriptTooLarge => err.put(b"too large: script\n"),
+        Status::MisreadScript { line } => put_number(err, b"script line ", u64::from(*line)),
         Status::UnknownPass { place } => put_number(err, b"unknown pass ", u64::from(*place)),
         Status::OutOfMemory => err.put(b"out of memory\n"),
         Status::CannotWrite => err.put(b"cannot write\n"),
@@ -151,6 +169,47 @@ fn fault_line(fault: Fault) -> &'static [u8]
     }
 }
 
+// Puts the line of a trap.
+fn put_trap<E: Sink>(err: &mut ErrorOutput<'_, E>, trap: Trap)
+    ensures { Tells E.seen err.old (trap_pieces trap) err.new }
+{
+    let mut first = Buffer::new();
+    let mut second = Buffer::new();
+    err.put_all(&[
+        b"trap ",
+        first.format(trap_kind(trap)).as_bytes(),
+        b" pc ",
+        second.format(trap_pc(trap)).as_bytes(),
+        b"\n",
+    ]);
+}
+
+// The kind of a trap, by its number.
+fn trap_kind(trap: Trap) -> u32
+    ensures { result ≡ trap_kind trap }
+{
+    match trap {
+        Trap::Fetch { .. } => 1,
+        Trap::Word { .. } => 2,
+        Trap::Address { .. } => 3,
+        Trap::Call { .. } => 4,
+        Trap::NoScalar { .. } => 5,
+    }
+}
+
+// The pc of the word at which it comes.
+fn trap_pc(trap: Trap) -> u64
+    ensures { result ≡ trap_pc trap }
+{
+    match trap {
+        Trap::Fetch { pc }
+        | Trap::Word { pc }
+        | Trap::Address { pc, .. }
+        | Trap::Call { pc, .. }
+        | Trap::NoScalar { pc, .. } => pc,
+    }
+}
+
 // Puts the line of a pass that may make too many items.
 fn put_bound<E: Sink>(err: &mut ErrorOutput<'_, E>, place: u32, bound: u64)
     ensures { Tells E.seen err.old (pass_pieces place bound) err.new }
@@ -178,6 +237,21 @@ fn put_counts<E: Sink>(err: &mut ErrorOutput<'_, E>, given: u32, wanted: u32)
         b" given, ",
         second.format(wanted).as_bytes(),
         b" wanted\n",
+    ]);
+}
+
+// Puts the line of more arguments than a stack has room for.
+fn put_room<E: Sink>(err: &mut ErrorOutput<'_, E>, given: u64, room: u64)
+    ensures { Tells E.seen err.old (room_pieces given room) err.new }
+{
+    let mut words = Buffer::new();
+    let mut most = Buffer::new();
+    err.put_all(&[
+        b"arguments: ",
+        words.format(given).as_bytes(),
+        b" given, ",
+        most.format(room).as_bytes(),
+        b" room\n",
     ]);
 }
 
@@ -285,8 +359,8 @@ fn put_text_fault<E: Sink>(err: &mut ErrorOutput<'_, E>, path: &[u8], fault: Tex
     put_at(err, path, text_front(fault), text_position(fault));
 }
 
-// Puts a path, a piece, the byte at which a fault stands, and LF.
-fn put_at<E: Sink>(err: &mut ErrorOutput<'_, E>, path: &[u8], front: &[u8], at: u32)
+// Puts a path, a piece, the byte or the line at which a fault stands, and LF.
+fn put_at<E: Sink>(err: &mut ErrorOutput<'_, E>, path: &[u8], front: &[u8], at: u64)
     ensures { Tells E.seen err.old (path.now ∷ front.now ∷ decimal at ∷ codes "\n" ∷ []) err.new }
 {
     let mut buffer = Buffer::new();
@@ -431,7 +505,7 @@ fn text_front(fault: TextFault) -> &'static [u8]
 }
 
 // The byte at which it stands.
-fn text_position(fault: TextFault) -> u32
+fn text_position(fault: TextFault) -> u64
     ensures { result ≡ text_position fault }
 {
     match fault {
@@ -439,7 +513,7 @@ fn text_position(fault: TextFault) -> u32
         | TextFault::Grammar { at }
         | TextFault::IntRange { at }
         | TextFault::Float { at }
-        | TextFault::Deep { at } => at,
+        | TextFault::Deep { at } => u64::from(at),
         TextFault::Memory => 0,
     }
 }

@@ -1,7 +1,7 @@
 // The status of each stage's fault, so that `?` hands it on, and of how a command ended.
 
 ghost use Rattle.std.specs.Prelude.{◌≡◌};
-ghost use Rattle.bril_report.specs.StageFaults.{status_of, misuse_status, link_status, name_status, check_status, argument_status, profile_status, list_status, emit_status};
+ghost use Rattle.bril_report.specs.StageFaults.{status_of, misuse_status, link_status, name_status, check_status, argument_status, profile_status, list_status, emit_status, listing_status, elf_status, script_status};
 ghost use Rattle.bril_report.specs.declared.status.Status.TheVariants.{OutOfMemory, CannotWrite};
 
 use crate::status::Status;
@@ -10,10 +10,14 @@ use bril_checker::CheckFault;
 use bril_names::NameFault;
 use bril_outside::sink::Failed;
 use bril_tree::program::Prog;
+use bril_tree::text::Text;
 use bril_words::Misuse;
+use elf_wrap::ElfFault;
 use import_linker::LinkFault;
+use monitor_script::ScriptFault;
 use pass_law::ListFault;
 use profile_text::ProfileFault;
+use rv64_listing::ListingFault;
 use rv64_words::fault::EmitFault;
 use std::alloc::AllocError;
 
@@ -163,6 +167,46 @@ impl From<EmitFault> for Status {
             EmitFault::CodeTooBig { words } => Status::CodeTooBig { words },
             EmitFault::StackTooBig { words } => Status::StackTooBig { words },
             EmitFault::Memory => Status::OutOfMemory,
+        }
+    }
+}
+
+/// A path, and the fault of a listing that the bytes of the file there have.
+impl From<(Text, ListingFault)> for Status {
+    ghost from_gives = { λ refused status. status ≡ listing_status refused.0 refused.1 };
+
+    fn from(refused: (Text, ListingFault)) -> Status {
+        let (path, fault) = refused;
+        match fault {
+            ListingFault::Line { line } => Status::MisreadListing { path, line },
+            ListingFault::Memory => Status::OutOfMemory,
+        }
+    }
+}
+
+/// A path, and the fault of an ELF file that the bytes of the file there have.
+impl From<(Text, ElfFault)> for Status {
+    ghost from_gives = { λ refused status. status ≡ elf_status refused.0 refused.1 };
+
+    fn from(refused: (Text, ElfFault)) -> Status {
+        let (path, fault) = refused;
+        match fault {
+            ElfFault::At { at } => Status::MisreadElf { path, at },
+            ElfFault::CodeTooBig { words } => Status::CodeTooBig { words },
+            ElfFault::StackTooBig { words } => Status::StackTooBig { words },
+            ElfFault::Memory => Status::OutOfMemory,
+        }
+    }
+}
+
+/// The bytes of a monitor's script are the text of none.
+impl From<ScriptFault> for Status {
+    ghost from_gives = { λ fault status. status ≡ script_status fault };
+
+    fn from(fault: ScriptFault) -> Status {
+        match fault {
+            ScriptFault::Line { line } => Status::MisreadScript { line },
+            ScriptFault::Memory => Status::OutOfMemory,
         }
     }
 }

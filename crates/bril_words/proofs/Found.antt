@@ -9,7 +9,7 @@ use Rattle.clap.specs.Facts.{explicit_source}
 use Rattle.clap.specs.Walk.{Row, Text, first_of, has_row}
 use Rattle.clap.specs.Takes.{is_given}
 use Rattle.bril_words.specs.declared.options.Operand.{Operand}
-use Rattle.bril_words.specs.declared.options.Operand.TheVariants.{File, Functions}
+use Rattle.bril_words.specs.declared.options.Operand.TheVariants.{File, Listing, Elf, Script, Functions}
 use Rattle.bril_words.specs.Options.{option_name, flag_name, operand_id}
 use Rattle.bril_words.specs.Plain.{Piece, apart, joined, flag, operand, found_in, operands_in}
 use Rattle.bril_words.proofs.Defaults.{find_id}
@@ -52,6 +52,9 @@ given_there (o ∷ os) (operand v ∷ ps) id there = given_more (operand_id o) i
 
 same_operand : (o : Operand) → bytes_eq (operand_id o) (operand_id o) ≡ true
 same_operand File = refl
+same_operand Listing = refl
+same_operand Elf = refl
+same_operand Script = refl
 same_operand Functions = refl
 
 -- each operand has a row

@@ -6,7 +6,7 @@ use Rattle.bril_words.specs.declared.options.Setting.TheVariants.{Passes, Profil
 use Rattle.bril_words.specs.declared.options.Flag.{Flag}
 use Rattle.bril_words.specs.declared.options.Flag.TheVariants.{Stats}
 use Rattle.bril_words.specs.declared.options.Operand.{Operand}
-use Rattle.bril_words.specs.declared.options.Operand.TheVariants.{File, Functions}
+use Rattle.bril_words.specs.declared.options.Operand.TheVariants.{File, Listing, Elf, Script, Functions}
 use Rattle.bril_words.specs.Options.{option_name, flag_name, operand_id}
 use Rattle.bril_words.specs.Plain.{dashed}
 use Rattle.bril_words.proofs.Steps.{NamesOption}
@@ -50,6 +50,27 @@ option_apart File Cells = refl
 option_apart File Steps = refl
 option_apart File Hot = refl
 option_apart File Most = refl
+option_apart Listing Passes = refl
+option_apart Listing Profile = refl
+option_apart Listing Frames = refl
+option_apart Listing Cells = refl
+option_apart Listing Steps = refl
+option_apart Listing Hot = refl
+option_apart Listing Most = refl
+option_apart Elf Passes = refl
+option_apart Elf Profile = refl
+option_apart Elf Frames = refl
+option_apart Elf Cells = refl
+option_apart Elf Steps = refl
+option_apart Elf Hot = refl
+option_apart Elf Most = refl
+option_apart Script Passes = refl
+option_apart Script Profile = refl
+option_apart Script Frames = refl
+option_apart Script Cells = refl
+option_apart Script Steps = refl
+option_apart Script Hot = refl
+option_apart Script Most = refl
 option_apart Functions Passes = refl
 option_apart Functions Profile = refl
 option_apart Functions Frames = refl
@@ -66,6 +87,27 @@ operand_apart File Cells = refl
 operand_apart File Steps = refl
 operand_apart File Hot = refl
 operand_apart File Most = refl
+operand_apart Listing Passes = refl
+operand_apart Listing Profile = refl
+operand_apart Listing Frames = refl
+operand_apart Listing Cells = refl
+operand_apart Listing Steps = refl
+operand_apart Listing Hot = refl
+operand_apart Listing Most = refl
+operand_apart Elf Passes = refl
+operand_apart Elf Profile = refl
+operand_apart Elf Frames = refl
+operand_apart Elf Cells = refl
+operand_apart Elf Steps = refl
+operand_apart Elf Hot = refl
+operand_apart Elf Most = refl
+operand_apart Script Passes = refl
+operand_apart Script Profile = refl
+operand_apart Script Frames = refl
+operand_apart Script Cells = refl
+operand_apart Script Steps = refl
+operand_apart Script Hot = refl
+operand_apart Script Most = refl
 operand_apart Functions Passes = refl
 operand_apart Functions Profile = refl
 operand_apart Functions Frames = refl
@@ -76,8 +118,14 @@ operand_apart Functions Most = refl
 
 pub flag_apart : (o : Operand) (x : Flag) → bytes_eq (operand_id o) (flag_name x) ≡ false
 flag_apart File Stats = refl
+flag_apart Listing Stats = refl
+flag_apart Elf Stats = refl
+flag_apart Script Stats = refl
 flag_apart Functions Stats = refl
 
 pub operand_of_flag : (o : Operand) (x : Flag) → bytes_eq (flag_name x) (operand_id o) ≡ false
 operand_of_flag File Stats = refl
+operand_of_flag Listing Stats = refl
+operand_of_flag Elf Stats = refl
+operand_of_flag Script Stats = refl
 operand_of_flag Functions Stats = refl

@@ -50,6 +50,7 @@ abbrev pub ready_shape : Subcommand → Shape
 ready_shape c = built_leaf (inherited (with_leaf_noted (marked_built top_shape)) (subcommand_shape c))
 
 pub ready : (c : Subcommand) → Ready (ready_shape c) c
+ready subcommand.Monitor = record { name = refl; named = refl; options = search rules; flags = search rules; operands = (record { by_index = refl; by_id = refl }, (record { by_index = refl; by_id = refl }, tt)); harmless = refl; quiet = refl; others = λ id e. search rules; check = λ rows given. rw (given.0, given.1.0) refl }
 ready subcommand.Check = record { name = refl; named = refl; options = search rules; flags = search rules; operands = (record { by_index = refl; by_id = refl }, tt); harmless = refl; quiet = refl; others = λ id e. search (rules, e); check = λ rows given. rw given.0 refl }
 ready _ = record { name = refl; named = refl; options = search rules; flags = search rules; operands = (record { by_index = refl; by_id = refl }, tt); harmless = refl; quiet = refl; others = λ id e. search (rules, e); check = λ rows given. rw given.0 refl }
 

@@ -20,9 +20,10 @@ use Rattle.bril_words.specs.Request.{Asked}
 use Rattle.bril_words.specs.Options.{flag_name, operand_id, option_name}
 use Rattle.bril_words.specs.Subcommands.{has_args, name_of, operands_of, subcommand_named}
 use Rattle.bril_words.specs.declared.options.Operand.{Operand}
-use Rattle.bril_words.specs.declared.options.Operand.TheVariants.{File, Functions}
+use Rattle.bril_words.specs.declared.options.Operand.TheVariants.{File, Script, Functions}
 use Rattle.bril_words.specs.declared.options.Setting.TheVariants.{Passes, Profile, Frames, Cells, Steps, Hot, Most}
 use Rattle.bril_words.specs.declared.subcommands.Subcommand.{Subcommand}
+use Rattle.bril_words.specs.declared.subcommands.Subcommand.TheVariants as subcommand
 use Rattle.bril_words.proofs.Defaults.{defaults_harmless, defaults_kept, defaults_quiet, defaults_spared, find_id}
 use Rattle.bril_words.proofs.Found.{all_operands, first_found, given_there, operand_there}
 use Rattle.bril_words.proofs.Fresh.{OperandsDiffer, are_new}
@@ -132,7 +133,8 @@ no_end c (flag x ∷ ps) fit = rw ((flag_word x).dash) (no_end c ps fit.1)
 no_end c (operand v ∷ ps) fit = rw ((plain_word_is v fit.0).dash) (no_end c ps fit.1)
 
 operands_differ : (c : Subcommand) → OperandsDiffer (operands_of c)
-operands_differ c = (tt, tt)
+operands_differ subcommand.Monitor = ((refl, tt), (tt, tt))
+operands_differ _ = (tt, tt)
 
 takes_args_is : (c : Subcommand) → takes_args (name_of c) ≡ has_args c
 takes_args_is c = ap (λ (o : Option Subcommand). option_map_or has_args o false) (ready c).named
@@ -231,6 +233,7 @@ module _ (c : Subcommand) (ps : List Piece) (fit : FitPieces c ps) (once : are_d
   texts_same : texts_found (λ id. first_of id (rows_after (ready_shape c).rules [] (written ps))) ≡ texts_found (found_in (operands_of c) ps)
   texts_same =
       let file_ = found (operand_id File) refl in
+      let script_ = found (operand_id Script) refl in
       let passes_ = found (option_name Passes) refl in
       let profile_ = found (option_name Profile) refl in
       let frames_ = found (option_name Frames) refl in
@@ -242,6 +245,7 @@ module _ (c : Subcommand) (ps : List Piece) (fit : FitPieces c ps) (once : are_d
       let stats_ = flag_is (ready_shape c) c (ready c) ps fit once (operands_differ c) count (flag_name Stats) in
       λ i. record {
         file = file_ i;
+        script = script_ i;
         passes = passes_ i;
         profile = profile_ i;
         frames = frames_ i;

@@ -13,7 +13,7 @@ use Rattle.bril_words.specs.Options.{option_name, flag_name, operand_id}
 use Rattle.bril_words.specs.Request.{Asked}
 use Rattle.bril_words.specs.Subcommands.{action_of, has_args, subcommand_named}
 use Rattle.bril_words.specs.declared.options.Flag.TheVariants.{Stats}
-use Rattle.bril_words.specs.declared.options.Operand.TheVariants.{File, Functions}
+use Rattle.bril_words.specs.declared.options.Operand.TheVariants.{File, Script, Functions}
 use Rattle.bril_words.specs.declared.options.Setting.{Setting}
 use Rattle.bril_words.specs.declared.options.Setting.TheVariants.{Passes, Profile, Frames, Cells, Steps, Hot, Most}
 use Rattle.bril_words.specs.declared.subcommands.Action.{Action}
@@ -58,6 +58,11 @@ abbrev pub list_of : Option (List ℕ) → Option (List ℕ)
 list_of None = Some []
 list_of (Some list) = if has_few_names list then Some list else None
 
+-- the path of the second file: that of the script where there is one, else of the profile
+abbrev pub second_of : (script profile : Option (List ℕ)) → Option (List ℕ)
+second_of None profile = profile
+second_of (Some path) profile = Some path
+
 -- a flag stands
 abbrev pub is_true : Option (List ℕ) → Bool
 is_true None = false
@@ -68,6 +73,7 @@ is_true (Some text) = bytes_eq text (codes "true")
 -- the texts of the options and operands, None where one doesn't stand, and whether the flag does
 pub record Texts : Type 0 where
   pub file : Option (List ℕ)
+  pub script : Option (List ℕ)
   pub passes : Option (List ℕ)
   pub profile : Option (List ℕ)
   pub frames : Option (List ℕ)
@@ -82,6 +88,7 @@ pub record Texts : Type 0 where
 abbrev pub texts_found : (List ℕ → Option (List ℕ)) → Texts
 texts_found get = record {
   file = get (operand_id File);
+  script = get (operand_id Script);
   passes = get (option_name Passes);
   profile = get (option_name Profile);
   frames = get (option_name Frames);
@@ -99,9 +106,9 @@ pub data Refusal : Type 0 where
   bad_value : Setting → Refusal
   bad_functions : Refusal
 
--- an action on the file at a path, with this list of passes, this path of a profile and these arguments
+-- an action on the file at a path, with this list of passes, this path of a second file and these arguments
 abbrev pub asked : Action → List ℕ → List ℕ → Option (List ℕ) → List (List ℕ) → Result Asked Refusal
-asked act path list profile args = Ok (record { action = act; path = path; list = list; profile = profile; args = args })
+asked act path list second args = Ok (record { action = act; path = path; list = list; second = second; args = args })
 
 -- what a value asks for, where there is one
 abbrev pub or_bad : {X : Type 0} → Setting → Option X → (X → Result Asked Refusal) → Result Asked Refusal
@@ -123,7 +130,7 @@ texts_ask c args t =
     or_bad Most (value_of most_entries default_entries t.most) (λ most.
     or_bad_functions (value_of most_functions 1 t.functions) (λ functions.
     asked (action_of c (record { limits = limits_of frames cells; steps = steps; hot = hot; most = most; stats = t.stats; functions = functions }))
-    (unwrap_or t.file []) list t.profile args)))))))
+    (unwrap_or t.file []) list (second_of t.script t.profile) args)))))))
 
 -- ---- what the matches of `clap` ask for
 

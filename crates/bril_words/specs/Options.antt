@@ -7,7 +7,7 @@ use Rattle.bril_words.specs.declared.options.Setting.TheVariants.{Passes, Profil
 use Rattle.bril_words.specs.declared.options.Flag.{Flag}
 use Rattle.bril_words.specs.declared.options.Flag.TheVariants.{Stats}
 use Rattle.bril_words.specs.declared.options.Operand.{Operand}
-use Rattle.bril_words.specs.declared.options.Operand.TheVariants.{File, Functions}
+use Rattle.bril_words.specs.declared.options.Operand.TheVariants.{File, Listing, Elf, Script, Functions}
 
 -- the name of an option, under which its value is kept
 abbrev pub option_name : Setting → List ℕ
@@ -23,9 +23,12 @@ option_name Most = codes "most"
 abbrev pub flag_name : Flag → List ℕ
 flag_name Stats = codes "stats"
 
--- the id under which an operand's word is kept
+-- the id under which an operand's word is kept: the same for each path, but for that of a script, which stands beside another
 abbrev pub operand_id : Operand → List ℕ
 operand_id File = codes "file"
+operand_id Listing = codes "file"
+operand_id Elf = codes "file"
+operand_id Script = codes "script"
 operand_id Functions = codes "functions"
 
 -- ---- help
@@ -44,7 +47,7 @@ option_help Passes = codes "Passes to apply, with commas between their names [de
 option_help Profile = codes "File with a profile for the passes [default: none]"
 option_help Frames = codes "Most frames at once" ++ number_text most_frames default_frames
 option_help Cells = codes "Most cells in live blocks" ++ number_text most_cells default_cells
-option_help Steps = codes "Most steps (machine words for run)" ++ number_text most_steps default_steps
+option_help Steps = codes "Most steps (words on the machine)" ++ number_text most_steps default_steps
 option_help Hot = codes "Arrivals that make a label hot" ++ number_text most_hot default_hot
 option_help Most = codes "Most entries of the profile" ++ number_text most_entries default_entries
 
@@ -55,4 +58,7 @@ flag_help Stats = codes "Tell the counts of the run on standard error"
 -- what an operand is
 abbrev pub operand_help : Operand → List ℕ
 operand_help File = codes "Bril program: JSON where the name ends in .json, else text"
+operand_help Listing = codes "Listing of machine words, as list writes it"
+operand_help Elf = codes "ELF file, as elf writes it"
+operand_help Script = codes "Script: a line each of break @f N, clear @f N, go, step, show"
 operand_help Functions = codes "Functions of the demo program beside main" ++ range_text most_functions

@@ -2,20 +2,22 @@
 use Rattle.std.specs.Prelude.{ℕ, ◌≤◌, List, Option}
 use Rattle.bril_words.specs.declared.subcommands.Action.{Action}
 use Rattle.bril_words.specs.declared.subcommands.Action.TheVariants as action
+use Rattle.bril_words.specs.declared.subcommands.BytesAction.{BytesAction}
+use Rattle.bril_words.specs.declared.subcommands.BytesAction.TheVariants.{Execute}
 use Rattle.bril_words.specs.declared.subcommands.PassesAction.{PassesAction}
 use Rattle.bril_words.specs.declared.subcommands.PassesAction.TheVariants.{Run}
 use Rattle.bril_words.specs.declared.subcommands.ProgramAction.{ProgramAction}
-use Rattle.bril_words.specs.declared.subcommands.ProgramAction.TheVariants.{AsItStands, WithPasses}
+use Rattle.bril_words.specs.declared.subcommands.ProgramAction.TheVariants.{AsItStands, WithPasses, Monitor}
 use Rattle.bril_words.specs.declared.subcommands.SourceAction.{SourceAction}
 use Rattle.bril_words.specs.declared.subcommands.SourceAction.TheVariants.{Interpret, Record}
 
--- an action, the path of its file, empty where it has none, the list of passes that the words give, the path of the file with the
--- profile, if one is named, and the arguments of the file's program
+-- an action, the path of its file, empty where it has none, the list of passes that the words give, the path of the second file that
+-- the words name, if they name one: that of a profile, or of a script; and the arguments of the file's program
 pub record Asked : Type 0 where
   pub action : Action
   pub path : List ℕ
   pub list : List ℕ
-  pub profile : Option (List ℕ)
+  pub second : Option (List ℕ)
   pub args : List (List ℕ)
 
 -- the numbers of an action are in their ranges; those of limits always are
@@ -45,9 +47,15 @@ IsSourceInRange _ = Unit {0}
 abbrev pub IsProgramInRange : ProgramAction → Type 0
 IsProgramInRange (AsItStands does) = IsSourceInRange does
 IsProgramInRange (WithPasses does) = ArePassesInRange does
+IsProgramInRange (Monitor settings) = AreSteps settings.steps
+
+abbrev pub AreBytesInRange : BytesAction → Type 0
+AreBytesInRange (Execute settings) = AreSteps settings.steps
+AreBytesInRange _ = Unit {0}
 
 abbrev pub IsActionInRange : Action → Type 0
 IsActionInRange (action.Program program) = IsProgramInRange program
+IsActionInRange (action.Bytes bytes) = AreBytesInRange bytes
 IsActionInRange (action.Demo functions) = AreFunctions functions
 IsActionInRange _ = Unit {0}
 

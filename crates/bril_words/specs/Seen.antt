@@ -18,4 +18,4 @@ abbrev pub text_seen : Option (Bor (List ℕ)) → Option (List ℕ)
 text_seen = option_map (λ t. t.now)
 
 abbrev pub request_seen : Request → Asked
-request_seen r = record { action = r.action; path = r.path.now; list = r.list.now; profile = text_seen r.profile; args = r.args.now }
+request_seen r = record { action = r.action; path = r.path.now; list = r.list.now; second = text_seen r.second; args = r.args.now }

@@ -52,7 +52,7 @@ fn command_of<'a>(alloc: Global, subcommand: Subcommand) -> Result<Command<'a>, 
 {
     let form = subcommand.form();
     let command = with_help(Command::new(alloc, form.name), form);
-    let command = command.arg(operand_arg(alloc, form.operand))?;
+    let command = with_operands(alloc, command, form.operands)?;
     let command = with_options(alloc, command, form.options)?;
     with_flags(alloc, command, form.flags)
 }
@@ -67,6 +67,21 @@ fn with_help<'a>(command: Command<'a>, form: Form<'a>) -> Command<'a>
         Some(usage) => command.override_usage(usage),
         None => command,
     }
+}
+
+// The command with these operands more.
+fn with_operands<'a>(
+    alloc: Global,
+    command: Command<'a>,
+    operands: &[Operand],
+) -> Result<Command<'a>, AllocError>
+    ensures { IfOk result (λ c. (a : App) → HasApp a command.entry → HasApp (with_rules a (map operand_rule operands.now)) c) }
+{
+    let mut command = command;
+    for operand in operands {
+        command = command.arg(operand_arg(alloc, *operand))?;
+    }
+    Ok(command)
 }
 
 // The command with these options more.

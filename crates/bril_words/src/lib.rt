@@ -21,7 +21,9 @@ mod words;
 pub use misuse::Misuse;
 pub use names::names_of;
 pub use options::Setting;
-pub use request::{InterpretSettings, RecordSettings, Request, RunSettings};
-pub use subcommands::{Action, FileAction, PassesAction, ProgramAction, SourceAction, TreeAction};
+pub use request::{InterpretSettings, MachineSettings, RecordSettings, Request, RunSettings};
+pub use subcommands::{
+    Action, BytesAction, FileAction, PassesAction, ProgramAction, SourceAction, TreeAction,
+};
 pub use values::{CELLS, ENTRIES, FRAMES, HOT, STEPS};
 pub use words::read_words;

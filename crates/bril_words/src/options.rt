@@ -58,7 +58,7 @@ impl Setting {
             Setting::Frames => "Most frames at once, 1 to 65536 [default: 8192]",
             Setting::Cells => "Most cells in live blocks, 1 to 4194304 [default: 1048576]",
             Setting::Steps =>
-                "Most steps (machine words for run), 1 to 1000000000000 [default: 1000000000]",
+                "Most steps (words on the machine), 1 to 1000000000000 [default: 1000000000]",
             Setting::Hot => "Arrivals that make a label hot, 1 to 65536 [default: 16]",
             Setting::Most => "Most entries of the profile, 1 to 64 [default: 16]",
         }
@@ -95,19 +95,27 @@ impl Flag {
 // An operand: a word that stands by itself.
 #[derive(Clone, Copy, PartialEq, Eq, Debug, Drop)]
 pub(crate) enum Operand {
-    // FILE: the path of a file.
+    // FILE: the path of a file with a program.
     File,
+    // FILE: the path of a file with a listing of machine words.
+    Listing,
+    // FILE: the path of an ELF file.
+    Elf,
+    // SCRIPT: the path of a file with a script.
+    Script,
     // N: how many functions the demo program has.
     Functions,
 }
 
 impl Operand {
-    // The id under which `clap` keeps its word.
+    // The id under which `clap` keeps its word. A path has the same one whatever its file is, but for a script, which stands beside
+    // another.
     pub(crate) fn id<'a>(self) -> &'a str
         ensures { result.now ≡ operand_id self }
     {
         match self {
-            Operand::File => "file",
+            Operand::File | Operand::Listing | Operand::Elf => "file",
+            Operand::Script => "script",
             Operand::Functions => "functions",
         }
     }
@@ -115,7 +123,8 @@ impl Operand {
     // What help calls it.
     pub(crate) fn value_name<'a>(self) -> &'a str {
         match self {
-            Operand::File => "FILE",
+            Operand::File | Operand::Listing | Operand::Elf => "FILE",
+            Operand::Script => "SCRIPT",
             Operand::Functions => "N",
         }
     }
@@ -126,6 +135,9 @@ impl Operand {
     {
         match self {
             Operand::File => "Bril program: JSON where the name ends in .json, else text",
+            Operand::Listing => "Listing of machine words, as list writes it",
+            Operand::Elf => "ELF file, as elf writes it",
+            Operand::Script => "Script: a line each of break @f N, clear @f N, go, step, show",
             Operand::Functions => "Functions of the demo program beside main, 1 to 150",
         }
     }

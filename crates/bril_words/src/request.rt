@@ -32,6 +32,13 @@ pub struct RunSettings {
     pub stats: bool,
 }
 
+/// How the machine runs: under these limits, for so many words.
+#[derive(Clone, Copy, Drop)]
+pub struct MachineSettings {
+    pub limits: Limits,
+    pub steps: u64,
+}
+
 // What the words give for any command, or what is given by default.
 #[derive(Clone, Copy, Drop)]
 pub(crate) struct Numbers {
@@ -54,13 +61,13 @@ pub(crate) fn limits_of(frames: u32, cells: u32) -> Limits
     Limits { frames, cells }
 }
 
-/// An action, the path of its file, empty where it has none, the list of passes that the words give, the path of the file with the
-/// profile, if one is named, and the arguments of the file's program.
+/// An action, the path of its file, empty where it has none, the list of passes that the words give, the path of the second file that
+/// the words name, if they name one: that of a profile, or of a script; and the arguments of the file's program.
 #[derive(Clone, Copy, Drop)]
 pub struct Request<'a> {
     pub action: Action,
     pub path: &'a str,
     pub list: &'a str,
-    pub profile: Option<&'a str>,
+    pub second: Option<&'a str>,
     pub args: &'a [Text],
 }

@@ -6,7 +6,9 @@ ghost use Rattle.bril_words.specs.Request.{AreFunctions, AreRecorded, AreSteps, 
 ghost use Rattle.bril_words.specs.Subcommands.{action_of, form_of, name_of, subcommand_named};
 
 use crate::options::{Flag, Operand, Setting};
-use crate::request::{InterpretSettings, Numbers, RecordSettings, RunSettings, limits_of};
+use crate::request::{
+    InterpretSettings, MachineSettings, Numbers, RecordSettings, RunSettings, limits_of,
+};
 use crate::values::CELLS;
 use bril_tree::limits::Limits;
 
@@ -15,6 +17,8 @@ use bril_tree::limits::Limits;
 pub enum Action {
     /// It works on the tree of its one file.
     File(FileAction),
+    /// It works on the bytes of its one file.
+    Bytes(BytesAction),
     /// It works on the tree of its file and of all that this imports.
     Tree(TreeAction),
     /// It works on the accepted program of that tree.
@@ -33,6 +37,15 @@ pub enum FileAction {
     WriteJson,
 }
 
+/// What is done with the bytes of a file.
+#[derive(Clone, Copy, Drop)]
+pub enum BytesAction {
+    /// They are a listing, of which the machine words are written.
+    Assemble,
+    /// They are an ELF file, which is run on the machine.
+    Execute(MachineSettings),
+}
+
 /// What is done with the tree of a file and of all that this imports.
 #[derive(Clone, Copy, Drop)]
 pub enum TreeAction {
@@ -47,6 +60,8 @@ pub enum ProgramAction {
     AsItStands(SourceAction),
     /// It is given to a list of passes.
     WithPasses(PassesAction),
+    /// Its image is run with a script that says where it stops.
+    Monitor(MachineSettings),
 }
 
 /// What is done with an accepted program as it stands.
@@ -67,6 +82,10 @@ pub enum PassesAction {
     Run(RunSettings),
     /// Its machine words are written, which are for these limits.
     Emit { limits: Limits },
+    /// Its machine words, which are for these limits, are written as a listing.
+    List { limits: Limits },
+    /// Its machine words, which are for these limits, are written as an ELF file.
+    Wrap { limits: Limits },
     /// It is written, in canonical text.
     Passes,
 }
@@ -79,6 +98,11 @@ pub(crate) enum Subcommand {
     Record,
     Passes,
     Emit,
+    List,
+    Assemble,
+    Wrap,
+    Execute,
+    Monitor,
     Check,
     Link,
     WriteText,
@@ -87,12 +111,17 @@ pub(crate) enum Subcommand {
 }
 
 // All commands, in the order in which help lists them.
-pub(crate) const SUBCOMMANDS: [Subcommand; 10] = [
+pub(crate) const SUBCOMMANDS: [Subcommand; 15] = [
     Subcommand::Run,
     Subcommand::Interp,
     Subcommand::Record,
     Subcommand::Passes,
     Subcommand::Emit,
+    Subcommand::List,
+    Subcommand::Assemble,
+    Subcommand::Wrap,
+    Subcommand::Execute,
+    Subcommand::Monitor,
     Subcommand::Check,
     Subcommand::Link,
     Subcommand::WriteText,
@@ -105,8 +134,8 @@ pub(crate) const SUBCOMMANDS: [Subcommand; 10] = [
 pub(crate) struct Form<'a> {
     // Its own word.
     pub(crate) name: &'a str,
-    // The word that it wants.
-    pub(crate) operand: Operand,
+    // The words that it wants, in this order.
+    pub(crate) operands: &'a [Operand],
     // Its options with a value.
     pub(crate) options: &'a [Setting],
     // Its options without one.
@@ -118,6 +147,16 @@ pub(crate) struct Form<'a> {
     // An example, for the end of its help.
     pub(crate) example: &'a str,
 }
+
+static FILE: [Operand; 1] = [Operand::File];
+
+static LISTING: [Operand; 1] = [Operand::Listing];
+
+static ELF: [Operand; 1] = [Operand::Elf];
+
+static FILE_AND_SCRIPT: [Operand; 2] = [Operand::File, Operand::Script];
+
+static FUNCTIONS: [Operand; 1] = [Operand::Functions];
 
 static OF_RUN: [Setting; 5] = [
     Setting::Passes,
@@ -141,6 +180,15 @@ static OF_PASSES: [Setting; 2] = [Setting::Passes, Setting::Profile];
 
 static OF_EMIT: [Setting; 3] = [Setting::Passes, Setting::Profile, Setting::Frames];
 
+static OF_WRAP: [Setting; 4] = [
+    Setting::Passes,
+    Setting::Profile,
+    Setting::Frames,
+    Setting::Cells,
+];
+
+static OF_EXECUTE: [Setting; 2] = [Setting::Cells, Setting::Steps];
+
 static NO_OPTIONS: [Setting; 0] = [];
 
 static STATS: [Flag; 1] = [Flag::Stats];
@@ -151,7 +199,7 @@ impl Subcommand {
     // The words of each command.
     pub(crate) fn form<'a>(self) -> Form<'a>
         ensures name { result.name.now ≡ (form_of self).name }
-        ensures operand { result.operand ≡ (form_of self).operand }
+        ensures operands { result.operands.now ≡ (form_of self).operands }
         ensures options { result.options.now ≡ (form_of self).options }
         ensures flags { result.flags.now ≡ (form_of self).flags }
         ensures args { is_some result.usage ≡ (form_of self).has_args }
@@ -159,7 +207,7 @@ impl Subcommand {
         match self {
             Subcommand::Run => Form {
                 name: "run",
-                operand: Operand::File,
+                operands: FILE.as_slice(),
                 options: OF_RUN.as_slice(),
                 flags: STATS.as_slice(),
                 usage: Some("roolvist run [OPTIONS] <FILE> [-- ARGS]"),
@@ -168,7 +216,7 @@ impl Subcommand {
             },
             Subcommand::Interp => Form {
                 name: "interp",
-                operand: Operand::File,
+                operands: FILE.as_slice(),
                 options: OF_INTERP.as_slice(),
                 flags: NO_FLAGS.as_slice(),
                 usage: Some("roolvist interp [OPTIONS] <FILE> [-- ARGS]"),
@@ -177,7 +225,7 @@ impl Subcommand {
             },
             Subcommand::Record => Form {
                 name: "record",
-                operand: Operand::File,
+                operands: FILE.as_slice(),
                 options: OF_RECORD.as_slice(),
                 flags: NO_FLAGS.as_slice(),
                 usage: Some("roolvist record [OPTIONS] <FILE> [-- ARGS]"),
@@ -186,7 +234,7 @@ impl Subcommand {
             },
             Subcommand::Passes => Form {
                 name: "passes",
-                operand: Operand::File,
+                operands: FILE.as_slice(),
                 options: OF_PASSES.as_slice(),
                 flags: NO_FLAGS.as_slice(),
                 usage: None,
@@ -195,16 +243,61 @@ impl Subcommand {
             },
             Subcommand::Emit => Form {
                 name: "emit",
-                operand: Operand::File,
+                operands: FILE.as_slice(),
                 options: OF_EMIT.as_slice(),
                 flags: NO_FLAGS.as_slice(),
                 usage: None,
                 about: "Write the machine words of a program",
                 example: "Example: roolvist emit examples/empty.bril --frames 100",
             },
+            Subcommand::List => Form {
+                name: "list",
+                operands: FILE.as_slice(),
+                options: OF_EMIT.as_slice(),
+                flags: NO_FLAGS.as_slice(),
+                usage: None,
+                about: "Write the machine words of a program as assembly",
+                example: "Example: roolvist list examples/empty.bril",
+            },
+            Subcommand::Assemble => Form {
+                name: "asm",
+                operands: LISTING.as_slice(),
+                options: NO_OPTIONS.as_slice(),
+                flags: NO_FLAGS.as_slice(),
+                usage: None,
+                about: "Assemble a listing into machine words",
+                example: "Example: roolvist asm examples/hello.lst",
+            },
+            Subcommand::Wrap => Form {
+                name: "elf",
+                operands: FILE.as_slice(),
+                options: OF_WRAP.as_slice(),
+                flags: NO_FLAGS.as_slice(),
+                usage: None,
+                about: "Write the machine words of a program as an ELF file",
+                example: "Example: roolvist elf examples/fibonacci.bril > fibonacci.elf",
+            },
+            Subcommand::Execute => Form {
+                name: "exec",
+                operands: ELF.as_slice(),
+                options: OF_EXECUTE.as_slice(),
+                flags: NO_FLAGS.as_slice(),
+                usage: Some("roolvist exec [OPTIONS] <FILE> [-- ARGS]"),
+                about: "Run an ELF file that elf wrote",
+                example: "ARGS are ints, one for each word on the stack.{n}{n}Example: roolvist exec examples/empty.elf",
+            },
+            Subcommand::Monitor => Form {
+                name: "monitor",
+                operands: FILE_AND_SCRIPT.as_slice(),
+                options: OF_INTERP.as_slice(),
+                flags: NO_FLAGS.as_slice(),
+                usage: Some("roolvist monitor [OPTIONS] <FILE> <SCRIPT> [-- ARGS]"),
+                about: "Run a program on the machine and stop at its items by a script",
+                example: "ARGS are the arguments of the program's main function.{n}{n}Example: roolvist monitor examples/divisor.bril examples/divisor.script -- 1071 462",
+            },
             Subcommand::Check => Form {
                 name: "check",
-                operand: Operand::File,
+                operands: FILE.as_slice(),
                 options: NO_OPTIONS.as_slice(),
                 flags: NO_FLAGS.as_slice(),
                 usage: None,
@@ -213,7 +306,7 @@ impl Subcommand {
             },
             Subcommand::Link => Form {
                 name: "link",
-                operand: Operand::File,
+                operands: FILE.as_slice(),
                 options: NO_OPTIONS.as_slice(),
                 flags: NO_FLAGS.as_slice(),
                 usage: None,
@@ -222,7 +315,7 @@ impl Subcommand {
             },
             Subcommand::WriteText => Form {
                 name: "text",
-                operand: Operand::File,
+                operands: FILE.as_slice(),
                 options: NO_OPTIONS.as_slice(),
                 flags: NO_FLAGS.as_slice(),
                 usage: None,
@@ -231,7 +324,7 @@ impl Subcommand {
             },
             Subcommand::WriteJson => Form {
                 name: "json",
-                operand: Operand::File,
+                operands: FILE.as_slice(),
                 options: NO_OPTIONS.as_slice(),
                 flags: NO_FLAGS.as_slice(),
                 usage: None,
@@ -240,7 +333,7 @@ impl Subcommand {
             },
             Subcommand::Demo => Form {
                 name: "demo",
-                operand: Operand::Functions,
+                operands: FUNCTIONS.as_slice(),
                 options: NO_OPTIONS.as_slice(),
                 flags: NO_FLAGS.as_slice(),
                 usage: None,
@@ -279,6 +372,17 @@ impl Subcommand {
             Subcommand::Emit => with_passes(PassesAction::Emit {
                 limits: limits_of(limits.frames, CELLS),
             }),
+            Subcommand::List => with_passes(PassesAction::List {
+                limits: limits_of(limits.frames, CELLS),
+            }),
+            Subcommand::Assemble => Action::Bytes(BytesAction::Assemble),
+            Subcommand::Wrap => with_passes(PassesAction::Wrap { limits }),
+            Subcommand::Execute => {
+                Action::Bytes(BytesAction::Execute(MachineSettings { limits, steps }))
+            }
+            Subcommand::Monitor => {
+                Action::Program(ProgramAction::Monitor(MachineSettings { limits, steps }))
+            }
             Subcommand::Check => as_it_stands(SourceAction::Check),
             Subcommand::Link => Action::Tree(TreeAction::Link),
             Subcommand::WriteText => Action::File(FileAction::WriteText),

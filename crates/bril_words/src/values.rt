@@ -5,7 +5,7 @@ ghost use Rattle.std.specs.Option.{option_map};
 ghost use Rattle.std.specs.Result.{result_map_both};
 ghost use Rattle.clap.specs.Matches.{found_of};
 ghost use Rattle.clap.specs.Walk.{first_of, rows_of};
-ghost use Rattle.bril_words.specs.CommandLine.{in_range, is_true, list_of, texts_ask, texts_found, value_of};
+ghost use Rattle.bril_words.specs.CommandLine.{in_range, is_true, list_of, second_of, texts_ask, texts_found, value_of};
 ghost use Rattle.bril_words.specs.Names.{names_of};
 ghost use Rattle.bril_words.specs.Options.{option_name};
 ghost use Rattle.bril_words.specs.Request.{IsActionInRange};
@@ -51,7 +51,7 @@ pub const HOT: u32 = 16;
 pub const ENTRIES: u32 = 16;
 
 // What a command asks for, with what `clap` found for it and these arguments: its list of passes and its numbers, each what it is
-// by default where its option doesn't stand, and the path of its profile.
+// by default where its option doesn't stand, and the path of its script or of its profile.
 //
 // `Value`: the first of passes, frames, cells, steps, hot and most whose value has more than 64 names, is no number as
 // `bril_nums::read_int` reads it, or is out of its range. `Functions`: these are as they should be, and the number of functions isn't.
@@ -94,7 +94,10 @@ pub(crate) fn read_found<'a>(
         action: subcommand.action(numbers),
         path: found_text(found, Operand::File.id()).unwrap_or(""),
         list,
-        profile: found_text(found, Setting::Profile.name()),
+        second: second_of(
+            found_text(found, Operand::Script.id()),
+            found_text(found, Setting::Profile.name()),
+        ),
         args,
     })
 }
@@ -111,6 +114,13 @@ fn found_text<'a>(found: &ArgMatches<'a>, id: &str) -> Option<&'a str>
     ensures { text_seen result ≡ first_of id.now (rows_of (found_of found.now)) }
 {
     found.get_str(id)
+}
+
+// The path of the second file: that of the script where there is one, else of the profile.
+fn second_of<'a>(script: Option<&'a str>, profile: Option<&'a str>) -> Option<&'a str>
+    ensures { text_seen result ≡ second_of (text_seen script.entry) (text_seen profile.entry) }
+{
+    script.or(profile)
 }
 
 // The list of passes: 64 names at most, and none where the option doesn't stand.

@@ -20,12 +20,12 @@ use std::alloc::Global;
 
 /// What the words ask for.
 ///
-/// The words are the program's name, a command, and then, in any order, its operand and the options that it takes
-/// (`specs/Subcommands.antt` has a record of each command), each at most once, as `--x v` or `--x=v`. After these some commands take
-/// `--` and the arguments of the program, which are any words. Where an option doesn't stand it is the empty list, no profile, 8,192
-/// frames, 1,048,576 cells, 1,000,000,000 steps, 16 arrivals and 16 entries.
+/// The words are the program's name, a command, and then, in any order, its operands and the options that it takes
+/// (`specs/Subcommands.antt` has a record of each command), each at most once, as `--x v` or `--x=v`; two operands stand in the order of
+/// the record. After these some commands take `--` and the arguments of the program, which are any words. Where an option doesn't stand
+/// it is the empty list, no profile, 8,192 frames, 1,048,576 cells, 1,000,000,000 steps, 16 arrivals and 16 entries.
 ///
-/// `clap` reads the words; where the command takes arguments, those before the first `--`. It takes all words of this form whose path
+/// `clap` reads the words; where the command takes arguments, those before the first `--`. It takes all words of this form whose paths
 /// and values have at least a byte and begin with no `-`, and some others; the values are then those of its matches.
 ///
 /// `Words`: `clap` refuses the words. `Value`: it takes them, and this is the first of passes, frames, cells, steps, hot and most

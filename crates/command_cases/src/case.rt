@@ -97,7 +97,7 @@ impl Case {
                 self.room = rest.parse::<u32>().map_err(|_| LineFault::Form)?;
                 Ok(())
             }
-            "==" | "$" | "executes" | "counts" | "fails" | "cuts" => {
+            "==" | "$" | "keeps" | "executes" | "counts" | "fails" | "cuts" => {
                 add_line(line, shown)?;
                 self.show(word, rest, shown)
             }
@@ -117,6 +117,7 @@ impl Case {
             _ => {
                 self.end_file()?;
                 match word {
+                    "keeps" => self.keep(rest, shown),
                     "executes" => self.execute(rest, shown),
                     "counts" => self.run_counted(rest, shown),
                     "fails" => self.count_fails(rest, shown),
@@ -191,6 +192,21 @@ impl Case {
         Ok(())
     }
 
+    // Runs a command line, puts what it writes as the file at the path that stands before it, and appends the rest of what it leaves.
+    fn keep(&mut self, line: &str, shown: &mut Vec<u8>) -> Result<(), LineFault> {
+        let alloc = self.alloc;
+        let (path, command) = line.split_once(' ').ok_or(LineFault::Form)?;
+        let path = text_of(alloc, path)?;
+        let words = words_of(alloc, command)?;
+        let mut out = MemSink::new(alloc, ROOM, Seq::new(alloc))?;
+        let mut err = MemSink::new(alloc, ROOM, Seq::new(alloc))?;
+        let status = self.call(words, &mut out, &mut err)?;
+        self.files.add(&path, out.bytes())?;
+        add_status(alloc, status, shown)?;
+        add_lines(alloc, "err ", err.bytes(), shown)?;
+        Ok(())
+    }
+
     // Runs a command line, executes the machine words that it writes, with the ints after `--` as their arguments, and appends
     // what they leave.
     fn execute(&mut self, line: &str, shown: &mut Vec<u8>) -> Result<(), LineFault> {
@@ -252,8 +268,7 @@ impl Case {
         let mut out = MemSink::new(alloc, room, puts)?;
         let mut err = MemSink::new(alloc, ROOM, errs)?;
         let status = self.call(words, &mut out, &mut err)?;
-        let told = format!(in alloc; "status {status}")?;
-        add_line(told.as_str(), shown)?;
+        add_status(alloc, status, shown)?;
         add_lines(alloc, "", out.bytes(), shown)?;
         add_lines(alloc, "err ", err.bytes(), shown)?;
         Ok(())
@@ -306,6 +321,12 @@ fn add_answer(
         shown.extend_from_slice(answer)?;
     }
     Ok(())
+}
+
+// Appends the line of a status.
+fn add_status(alloc: Global, status: u8, shown: &mut Vec<u8>) -> Result<(), AllocError> {
+    let told = format!(in alloc; "status {status}")?;
+    add_line(told.as_str(), shown)
 }
 
 // Appends the line and LF.

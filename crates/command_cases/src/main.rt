@@ -20,15 +20,17 @@
 //     errs 1                     the puts of the next command to the error output that fail
 //     room 8                     how many bytes the output of the next command takes
 //     $ bril run one.bril        a command line: all its words, a blank between two; `\e` is an empty word
+//     keeps one.elf bril elf one.bril    a command line whose output becomes the file at the path before it
 //     executes bril emit one.bril -- 7   a command line that writes machine words, which a machine of its own executes with these ints
 //     counts bril run one.bril --stats   a command line, shown with `#` as the number of words that it tells
 //     fails one.bril -- 7        a file and arguments: how often each guard failed when its program is interpreted
 //     cuts bril run one.bril     a command line for each length of the file before it but its own, with so many of its bytes
 //
-// Escapes are `\n`, `\r`, `\t`, `\\` and `\xHH`. Shown are the lines `==`, `$`, `executes`, `counts`, `fails` and `cuts`. After
-// each `$` and `counts` comes the line `status N`, what went to the output as lines `|` and `+`, and what went to the error
-// output as such lines after `err `. After `cuts` this is shown once for lengths in a row that leave the same, each time
-// after a line `bytes FIRST to LAST`; a length at the end of the last line is shown as `#`.
+// Escapes are `\n`, `\r`, `\t`, `\\` and `\xHH`. Shown are the lines `==`, `$`, `keeps`, `executes`, `counts`, `fails` and `cuts`.
+// After each `$` and `counts` comes the line `status N`, what went to the output as lines `|` and `+`, and what went to the
+// error output as such lines after `err `. After `keeps` comes the same without the output. After `cuts` this is shown once for
+// lengths in a row that leave the same, each time after a line `bytes FIRST to LAST`; a length at the end of the last line is
+// shown as `#`.
 #![tactic(auto)]
 
 mod case;

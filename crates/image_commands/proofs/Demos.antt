@@ -1,6 +1,7 @@
 -- What is shown of the demo's run says it of its source.
 use Rattle.std.proofs.Common.{◌≡◌, ℕ, ◌<◌, ◌^◌, refl, subst, sym, false, List, [], Option, Some, None}
 use Rattle.std.specs.List.{AllZip}
+use Rattle.bril_outside.specs.Files.{FileMap}
 use Rattle.bril_outside.specs.Sink.{SinkSeen}
 use Rattle.bril_demo.proofs.Acceptance.{demo_takes_nothing}
 use Rattle.bril_demo.specs.Demo.{demo_tree}
@@ -24,9 +25,9 @@ use Rattle.bril_commands.specs.commands.Demo.{DemoSize, DemoShows, MadeRuns, Sou
 pub demo_fits : (n : ℕ) (p : Prog) → n < 2 ^ 64 → Numbered (demo_tree n) p → FitMain p []
 demo_fits n p small is = subst (λ types. AllZip Suits [] types) (sym (demo_takes_nothing n p small is)) tt
 
-module _ (l : PassList) (entries : List Entry) (p q : Prog) (made : IsMade l entries p q) (accepted : IsAccepted p) (limits : Limits) (are : AreLimitsOf (ImageFor demo_frames demo_cells) limits) (fits : FitMain p []) (functions : ℕ) where
+module _ (l : PassList) (entries : List Entry) (p q : Prog) (made : IsMade l entries p q) (accepted : IsAccepted p) (limits : Limits) (are : AreLimitsOf (ImageFor demo_frames demo_cells) limits) (fits : FitMain p []) (functions : ℕ) (named : Option (List ℕ)) (holds : Option FileMap) where
   on : Subject
-  on = subject (demonstrates functions) l entries p q made []
+  on = subject (demonstrates functions) l named holds entries p q made []
 
   runs_as : (ended : Option End) (printed : List (List ℕ)) (words : ℕ) → MadeRuns q limits ended printed words → SourceRuns on ended printed words
   unfolding on run_shows
@@ -45,8 +46,8 @@ module _ (l : PassList) (entries : List Entry) (p q : Prog) (made : IsMade l ent
   shows_as size None told output shows = record { printed = shows.printed; words = shows.words; runs = runs_as None shows.printed shows.words shows.runs; silent = shows.silent; untold = shows.untold }
 
   pub demo_works : (size : DemoSize) → size ≡ size_of functions p → (how : Status) (told : List (List ℕ)) (s t : SinkSeen)
-      → Works (demonstrated size (MadeRuns q limits)) how told s t → Works (demonstrated (size_of functions p) (SourceRuns (subject (demonstrates functions) l entries p q made []))) how told s t
+      → Works (demonstrated size (MadeRuns q limits)) how told s t → Works (demonstrated (size_of functions p) (SourceRuns (subject (demonstrates functions) l named holds entries p q made []))) how told s t
   unfolding on
   demo_works size is how told s t works =
-      let shown = Works-as (demonstrated size (MadeRuns q limits)) (demonstrated size (SourceRuns on)) refl refl (shows_as size) (λ output none. none) told s t how works in
+      let shown = Works-as (demonstrated size (MadeRuns q limits)) (demonstrated size (SourceRuns on)) refl refl (shows_as size) (λ trap told output none. none) (λ output none. none) told s t how works in
       subst (λ z. Works (demonstrated z (SourceRuns on)) how told s t) is shown

@@ -1,1 +1,2 @@
 mod Demos
+mod Images

@@ -49,11 +49,11 @@ pub fn run<F: Files, O: Sink, E: Sink>(
     requires { length names.now ≤ 64 }
     ensures holds { (F.seen files.new).holds ≡ (F.seen files.old).holds }
     ensures faults { (F.seen files.old).faults ≤ (F.seen files.new).faults }
-    ensures does { Telling O.seen E.seen (λ told s t. DoesProgram (runs settings.limits.frames settings.limits.cells settings.steps settings.stats) (status_of result) (pass_list (λ p. meaning p) (λ p. counts p) passes.old passes.new names.now) (F.seen files.old) (F.seen files.new) checked.prog (text_seen request.entry.profile) request.entry.args.now told s t) outputs.old outputs.new }
+    ensures does { Telling O.seen E.seen (λ told s t. DoesProgram (runs settings.limits.frames settings.limits.cells settings.steps settings.stats) (status_of result) (pass_list (λ p. meaning p) (λ p. counts p) passes.old passes.new names.now) (F.seen files.old) (F.seen files.new) checked.prog (text_seen request.entry.second) request.entry.args.now told s t) outputs.old outputs.new }
     ensures same { AllSame (λ p. meaning p) passes.old passes.new }
 {
     let values = values_of(alloc, checked.prog(), request.args)?;
-    let made = made_program(alloc, checked, request.profile, files, passes, names)?;
+    let made = made_program(alloc, checked, request.second, files, passes, names)?;
     run_with(alloc, &made, &values, settings, outputs)
 }
 

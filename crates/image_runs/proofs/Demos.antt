@@ -59,7 +59,7 @@ module _ (size : DemoSize) (q : Prog) (limits : Limits) (words : ℕ) (count : C
   pub line_works : (end : End) → CountsPrinted q limits (Some end) words count → (how : Status) (told : List (List ℕ)) (s t : SinkSeen)
       → Works (shows_line size (unwrap_or count.amount (2 ^ 64 - 1)) end words) how told s t → Works (demonstrated size (MadeRuns q limits)) how told s t
   line_works end counts how told s t works =
-      Works-as (shows_line size (unwrap_or count.amount (2 ^ 64 - 1)) end words) (demonstrated size (MadeRuns q limits)) refl refl (ends_shown end counts) (λ output none. none) told s t how works
+      Works-as (shows_line size (unwrap_or count.amount (2 ^ 64 - 1)) end words) (demonstrated size (MadeRuns q limits)) refl refl (ends_shown end counts) (λ trap told output none. none) (λ output none. none) told s t how works
 
   -- nothing is put
   pub goes_on : CountsPrinted q limits None words count → (s : SinkSeen) → ShowsPut (demonstrated size (MadeRuns q limits)) None [] s s

@@ -1,3 +1,4 @@
 pub mod Demos
 pub mod Listings
+pub mod Pieces
 pub mod Runs

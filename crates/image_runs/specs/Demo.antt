@@ -1,6 +1,6 @@
 -- The size of the program of a demo, and what its run comes to.
 use Rattle.std.specs.Prelude.{◌≡◌, ℕ, List, [], ◌∷◌, length, Option, Some}
-use Rattle.bril_commands.specs.Outcome.{Outcome}
+use Rattle.bril_commands.specs.Outcome.{Outcome, untrapped}
 use Rattle.bril_commands.specs.commands.Demo.{DemoSize, MadeRuns, demo_words, line_of}
 use Rattle.image_runs.specs.declared.demo.DemoCounts.{DemoCounts}
 use Rattle.bril_outside.specs.Sink.{Counted, amount_after, joined}
@@ -25,6 +25,7 @@ abbrev pub shows_line : DemoSize → (bytes : ℕ) → End → (words : ℕ) →
 shows_line size bytes end words = record {
   steps = demo_words;
   Shows = λ ended told output. (ended ≡ Some Ended) × (told ≡ words_pieces words) × (output ≡ line_of size bytes end ∷ []);
+  Traps = untrapped;
   Exhausts = λ output. ⊥;
   unwritten = [];
 }

@@ -6,6 +6,7 @@
 //!    (`src/constants.rt`), SSA form (`src/ssa.rt`), profiles and their recorder (`src/profiles.rt`), single steps
 //!    (`src/steps.rt`), homes (`src/placed.rt`, `src/counted.rt`), machine words (`src/machine.rt`, `src/groups.rt`),
 //!    their listings (`src/listings.rt`), their files (`src/elf.rt`), and runs that stop at items (`src/monitors.rt`).
+#![tactic(auto)]
 
 // Makes the calls of standard input that no command line makes or shows, and shows what they answer.
 //
@@ -54,7 +55,6 @@
 //                            and another run after it: each answer, and how many words were executed; and the output
 //
 // A source, a piece and an argument may have the escapes `\n`, `\r`, `\t`, `\\`, `\xHH` and `\e`.
-#![tactic(auto)]
 
 mod constants;
 mod counted;

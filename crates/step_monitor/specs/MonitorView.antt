@@ -1,11 +1,13 @@
 -- What contracts see of a monitor.
-use Rattle.std.specs.Prelude.{◌≡◌, ◌⊎◌, ℕ, ◌*◌, ◌/◌, ◌==◌, ◌&&◌, ◌||◌, Bool, true, false, List, Option, Some, None, if◌then◌else◌, slice_get}
+use Rattle.std.specs.Prelude.{◌≡◌, ◌⊎◌, ℕ, ◌*◌, ◌/◌, ◌==◌, ◌&&◌, ◌||◌, Bool, true, false, List, [], Option, Some, None, if◌then◌else◌, slice_get}
 use Rattle.bril_tree.specs.declared.value.Value.{Value}
-use Rattle.rv64_image_laws.specs.Stops.{ShownBy, entry_of}
+use Rattle.rv64_image_laws.specs.Stops.{IsValueOf, ShownBy, entry_of, home_word}
 use Rattle.rv64_machine.specs.declared.machine.Machine.{Machine}
 use Rattle.rv64_machine.specs.MachineView.{sizes_in, state_of}
 use Rattle.rv64_words.specs.declared.points.HomeAt.{HomeAt}
+use Rattle.rv64_words.specs.Region.{Sizes}
 use Rattle.rv64_words.specs.State.{State}
+use Rattle.step_monitor.specs.declared.entry.EntryValue.{EntryValue}
 use Rattle.step_monitor.specs.declared.monitor.Monitor.{Monitor}
 use Rattle.step_monitor.specs.declared.spots.Spot.{Spot}
 use Rattle.step_monitor.specs.declared.stop.Stop.{Stop}
@@ -87,3 +89,30 @@ entry_in spots (Some word) x = entry_at (slice_get spots word) x
 -- shows in the machine's state.
 abbrev pub IsValueIn : Monitor → ℕ → Option Value → Type 0
 IsValueIn m x answer = ShownBy (sizes_in m.machine) (state_of m.machine) (entry_in (spots_in m) (stop_in m) x) answer
+
+-- ---- entries
+
+-- the homes of a spot
+abbrev pub homes_at : Option (Option Spot) → List HomeAt
+homes_at None = []
+homes_at (Some None) = []
+homes_at (Some (Some spot)) = spot.homes
+
+-- where there is a stop
+abbrev pub homes_in : List (Option Spot) → Option ℕ → List HomeAt
+homes_in spots None = []
+homes_in spots (Some word) = homes_at (slice_get spots word)
+
+-- the entries of the point of the last stop: none where the last call stopped at no point
+abbrev pub entries_in : Monitor → List HomeAt
+entries_in m = homes_in (spots_in m) (stop_in m)
+
+-- What is answered for an entry: its variable and the value that the word at its home stands for, nothing exactly where that is none.
+abbrev pub IsShownEntry : Sizes → State → Option HomeAt → Option EntryValue → Type 0
+IsShownEntry z t None answer = answer ≡ None
+IsShownEntry z t (Some h) None = IsValueOf h.ty (home_word z t h.home) None
+IsShownEntry z t (Some h) (Some entry) = (entry.var ≡ h.var) × IsValueOf h.ty (home_word z t h.home) (Some entry.value)
+
+-- so for the entry at a place
+abbrev pub IsEntryIn : Monitor → ℕ → Option EntryValue → Type 0
+IsEntryIn m place answer = IsShownEntry (sizes_in m.machine) (state_of m.machine) (slice_get (entries_in m) place) answer

@@ -7,6 +7,7 @@ ghost use Rattle.rv64_words.specs.Points.{ArePointsIn};
 ghost use Rattle.rv64_words.specs.Region.{most_stack, most_words};
 ghost use Rattle.step_monitor.specs.Spots.{HasItem, NoneMarked, with_marks};
 
+use crate::entry::EntryValue;
 use crate::spots::Spots;
 use crate::stop::{Place, Stop};
 use crate::words::read_word;
@@ -31,7 +32,7 @@ pub struct Monitor {
 }
 
 impl Monitor {
-    ghost use Rattle.step_monitor.specs.MonitorView.{IsNext, IsSpotAt, IsValueIn, LeftSo, NoneIsNext, StopSo, entry_at, entry_in, from_in, is_left, machine_in, spots_in, stop_in};
+    ghost use Rattle.step_monitor.specs.MonitorView.{IsEntryIn, IsNext, IsSpotAt, IsValueIn, LeftSo, NoneIsNext, StopSo, entries_in, entry_at, entry_in, from_in, homes_at, is_left, machine_in, spots_in, stop_in};
     ghost use Rattle.step_monitor.specs.Stands.{StandsAfter};
     ghost use Rattle.step_monitor.specs.Went.{Went};
 
@@ -116,6 +117,29 @@ impl Monitor {
         read_word(entry.ty, word)
     }
 
+    /// How many variables have an entry at the point at which the machine has stopped. 0 where the last `go` or `step` didn't answer
+    /// `Break`. Takes no memory.
+    pub fn entries(&self) -> usize
+        ensures { result ≡ length (entries_in self.now) }
+    {
+        self.homes().len()
+    }
+
+    /// The variable of the entry at this place, from 0, among those of the point at which the machine has stopped, and the value that
+    /// the word at its home stands for. `None` exactly where there is no entry at the place, or it names no register from 0 to 31
+    /// and no word of the stack, or the word there is that of no value of its type. Takes no memory.
+    pub fn entry_value(&self, place: usize) -> Option<EntryValue>
+        ensures { IsEntryIn self.now place result }
+    {
+        let entry = self.home(place)?;
+        let word = self.word_at(entry.home)?;
+        let value = read_word(entry.ty, word)?;
+        Some(EntryValue {
+            var: entry.var,
+            value,
+        })
+    }
+
     /// How many words the machine executed, also in earlier calls. A word that ends the run counts; one that traps or whose print
     /// fails doesn't. The count stays at `u64::MAX`. Takes no memory.
     pub fn done(&self) -> u64
@@ -125,6 +149,33 @@ impl Monitor {
     }
 
     // ---- values
+
+    // The entries at the point of the last stop.
+    fn homes(&self) -> &[HomeAt]
+        ensures { result.now ≡ entries_in self.now }
+    {
+        match self.stop {
+            Some(word) => self.homes_at(word),
+            None => &[],
+        }
+    }
+
+    // The same at the spot of a word.
+    fn homes_at(&self, word: usize) -> &[HomeAt]
+        ensures { result.now ≡ homes_at (slice_get (spots_in self.now) word) }
+    {
+        match self.spots.by_word.get(word) {
+            Some(Some(spot)) => spot.homes.as_slice(),
+            _ => &[],
+        }
+    }
+
+    // The entry at a place.
+    fn home(&self, place: usize) -> Option<HomeAt>
+        ensures { result ≡ slice_get (entries_in self.now) place }
+    {
+        self.homes().get(place).copied()
+    }
 
     // The first entry of a variable at the point of the last stop.
     fn entry(&self, var: u32) -> Option<HomeAt>

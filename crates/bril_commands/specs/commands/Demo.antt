@@ -10,7 +10,7 @@ use Rattle.bril_tree.specs.declared.limits.Limits.{Limits}
 use Rattle.bril_tree.specs.declared.program.Prog.{Prog}
 use Rattle.rv64_image_laws.specs.Implements.{image_after}
 use Rattle.bril_commands.specs.Command.{OfProgram, NoArguments, ImageFor, Subject}
-use Rattle.bril_commands.specs.Outcome.{Outcome}
+use Rattle.bril_commands.specs.Outcome.{Outcome, untrapped}
 use Rattle.bril_commands.specs.Profiles.{OwnRun}
 use Rattle.bril_commands.specs.commands.Run.{Executes, RunShows}
 
@@ -91,7 +91,7 @@ module _ (size : DemoSize) (Runs : Option End → (printed : List (List ℕ)) �
   DemoShows None told output = DemoGoesOn told output
 
   abbrev pub demonstrated : Outcome
-  demonstrated = record { steps = demo_words; Shows = DemoShows; Exhausts = λ output. ⊥; unwritten = [] }
+  demonstrated = record { steps = demo_words; Shows = DemoShows; Traps = untrapped; Exhausts = λ output. ⊥; unwritten = [] }
 
 -- the run of a program: what so many words of the machine come to
 abbrev pub MadeRuns : Prog → Limits → Option End → List (List ℕ) → ℕ → Type 0

@@ -10,7 +10,7 @@ use Rattle.bril_tree.specs.declared.limits.Limits.{Limits}
 use Rattle.bril_tree.specs.declared.program.Prog.{Prog}
 use Rattle.bril_tree.specs.declared.value.Value.{Value}
 use Rattle.bril_commands.specs.Command.{OfSource, OfMain}
-use Rattle.bril_commands.specs.Outcome.{Outcome}
+use Rattle.bril_commands.specs.Outcome.{Outcome, untrapped}
 
 -- ---- the run
 
@@ -54,6 +54,7 @@ abbrev pub interpreted : Prog → List Value → (frames cells steps : ℕ) → 
 interpreted p values frames cells steps = record {
   steps = steps;
   Shows = λ ended told output. (told ≡ []) × Shows p values frames cells steps ended output;
+  Traps = untrapped;
   Exhausts = λ output. StopsForMemory p values frames cells steps output;
   unwritten = [];
 }

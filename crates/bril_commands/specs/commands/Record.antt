@@ -9,7 +9,7 @@ use Rattle.profile_text.specs.Form.{profile_text}
 use Rattle.profile_text.specs.declared.version.Version.TheVariants.{Second}
 use Rattle.trace_recorder.specs.Recorded.{recorded}
 use Rattle.bril_commands.specs.Command.{OfSource, OfMain}
-use Rattle.bril_commands.specs.Outcome.{Outcome}
+use Rattle.bril_commands.specs.Outcome.{Outcome, untrapped}
 use Rattle.bril_commands.specs.Recording.{states_within}
 
 -- By its semantics the program, with these values, has ended so within the steps, or goes on for None, and this is the text, in
@@ -28,6 +28,7 @@ abbrev pub recorded_run : Prog → List Value → (frames cells steps hot most :
 recorded_run p values frames cells steps hot most = record {
   steps = steps;
   Shows = λ ended told output. (told ≡ []) × ShowsProfile p values frames cells steps hot most ended output;
+  Traps = untrapped;
   Exhausts = λ output. ⊥;
   unwritten = [];
 }

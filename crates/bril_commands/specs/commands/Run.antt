@@ -16,7 +16,7 @@ use Rattle.rv64_words.specs.State.{State}
 use Rattle.rv64_words.specs.declared.image.Image.{Image}
 use Rattle.bril_commands.specs.Command.{OfProgram, OfMain, ImageFor, AreLimitsOf, Subject}
 use Rattle.bril_commands.specs.Images.{MachineShows}
-use Rattle.bril_commands.specs.Outcome.{Outcome}
+use Rattle.bril_commands.specs.Outcome.{Outcome, untrapped}
 use Rattle.bril_commands.specs.Profiles.{NamedFile}
 use Rattle.bril_commands.specs.Sources.{SourceShows}
 use Rattle.bril_commands.specs.Stats.{TellsStats}
@@ -54,7 +54,7 @@ pub record Executes (p : Prog) (limits : Limits) (values : List Value) (words : 
 
 -- what executing so many words comes to
 abbrev pub executed : Prog → Limits → List Value → ℕ → Bool → Outcome
-executed p limits values words stats = record { steps = words; Shows = Executes p limits values words stats; Exhausts = λ output. ⊥; unwritten = [] }
+executed p limits values words stats = record { steps = words; Shows = Executes p limits values words stats; Traps = untrapped; Exhausts = λ output. ⊥; unwritten = [] }
 
 -- A program was made of a source, and this is what so many words of it come to, and what they say of the source. Where the source has
 -- ended after n steps, and the words are at least the cost of a step of the program that was made, times the factor, times n + 1, the
@@ -73,6 +73,7 @@ abbrev pub ran : Subject → (frames cells words : ℕ) → Bool → Outcome
 ran on frames cells words stats = record {
   steps = words;
   Shows = RunShows on.source on.made on.IsFactor on.AreEnough on.values frames cells words stats;
+  Traps = untrapped;
   Exhausts = λ output. ⊥;
   unwritten = [];
 }

@@ -10,7 +10,7 @@ use Rattle.bril_commands.proofs.Statuses.{Ends}
 use Rattle.bril_commands.proofs.Telling.{puts_told}
 use Rattle.bril_commands.specs.Call.{call_of}
 use Rattle.bril_commands.specs.Command.{takes_passes}
-use Rattle.bril_commands.specs.CommandLine.{Asks, list_asked, profile_asked}
+use Rattle.bril_commands.specs.CommandLine.{Asks, list_asked, second_asked}
 use Rattle.bril_commands.specs.Driver.{DoesFiles}
 use Rattle.bril_commands.specs.PassList.{pass_list}
 use Rattle.bril_commands.specs.Table.{command}
@@ -28,15 +28,15 @@ returns-clause-promises g c =
     (λ p. (goal.Pass-dyn g (p.vtable, p.value)).meaning p.value) (λ p. (goal.Pass-dyn g (p.vtable, p.value)).counts p.value) c.args.passes.now c.drive.new.passes in
     let does = c.drive.ensures.does in
     let line = rw c.from-status-2.ensures at c.say-2.ensures.told in
-    let asks : Asks c.args.words.now = record { action = request.action; path = request.path.now; args = request.args.now; asked = (request.list.now, text_seen request.profile, c.in-Ok.ensures.asked) } in
+    let asks : Asks c.args.words.now = record { action = request.action; path = request.path.now; args = request.args.now; asked = (request.list.now, text_seen request.second, c.in-Ok.ensures.asked) } in
     let ends : Ends call asks how = record {
       told = does.told;
       does = subst (λ (named : Option (List ℕ)). DoesFiles (command request.action) how call.passes
           (g.F.Files.seen c.args.files.now) (g.F.Files.seen c.drive.new.files) request.path.now named request.args.now does.told (g.O.Sink.seen c.args.outputs.now.out.now) (g.O.Sink.seen c.drive.new.outputs.out.now))
-          (ap profile_asked (sym c.in-Ok.ensures.asked))
+          (ap second_asked (sym c.in-Ok.ensures.asked))
           (subst (λ (names : List (List ℕ)). DoesFiles (command request.action) how
           (pass_list (λ p. (goal.Pass-dyn g (p.vtable, p.value)).meaning p.value) (λ p. (goal.Pass-dyn g (p.vtable, p.value)).counts p.value) c.args.passes.now c.drive.new.passes names)
-          (g.F.Files.seen c.args.files.now) (g.F.Files.seen c.drive.new.files) request.path.now (text_seen request.profile) request.args.now does.told (g.O.Sink.seen c.args.outputs.now.out.now) (g.O.Sink.seen c.drive.new.outputs.out.now))
+          (g.F.Files.seen c.args.files.now) (g.F.Files.seen c.drive.new.files) request.path.now (text_seen request.second) request.args.now does.told (g.O.Sink.seen c.args.outputs.now.out.now) (g.O.Sink.seen c.drive.new.outputs.out.now))
           (ap (λ r. names_of (list_asked r)) (sym c.in-Ok.ensures.asked)) does.does);
       says = puts_told c.requires.sound does.tells.told line;
       keeps = c.drive.ensures.keeps;

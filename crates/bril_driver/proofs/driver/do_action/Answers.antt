@@ -25,7 +25,7 @@ returns-in_err-tree-in-File-clause-does g c =
 
 pub returns-in_ok-tree-in-File-clause-does : goal.returns-in_ok-tree-in-File-clause-does
 returns-in_ok-tree-in-File-clause-does g c =
-    rw c.in-File.is (record { same_output = refl; told = []; does = inr (c.in_ok-tree-in-File.tree, c.in_ok-tree-in-File.ensures.ok, c.on_file.ensures); tells = Tells-none g.E.Sink.seen c.args.outputs.now.err })
+    rw c.in-File.is (record { same_output = refl; told = []; does = inr (inl (c.in_ok-tree-in-File.tree, c.in_ok-tree-in-File.ensures.ok, c.on_file.ensures)); tells = Tells-none g.E.Sink.seen c.args.outputs.now.err })
 
 -- ---- linked files
 
@@ -36,7 +36,7 @@ returns-in_err-tree-in-Tree-clause-does g c =
 
 pub returns-in_ok-tree-in-Tree-clause-does : goal.returns-in_ok-tree-in-Tree-clause-does
 returns-in_ok-tree-in-Tree-clause-does g c =
-    rw c.in-Tree.is (record { same_output = refl; told = []; does = inr (c.in_ok-tree-in-Tree.tree, c.in_ok-tree-in-Tree.ensures.ok, c.on_tree.ensures); tells = Tells-none g.E.Sink.seen c.args.outputs.now.err })
+    rw c.in-Tree.is (record { same_output = refl; told = []; does = inr (inl (c.in_ok-tree-in-Tree.tree, c.in_ok-tree-in-Tree.ensures.ok, c.on_tree.ensures)); tells = Tells-none g.E.Sink.seen c.args.outputs.now.err })
 
 -- ---- their program
 
@@ -57,7 +57,7 @@ returns-in_err-program-in-Program-clause-does g c =
     rw (c.in-Program.is, e.1, e.2) (record {
       same_output = refl;
       told = [];
-      does = inr (c.in_ok-tree-in-Program.tree, c.in_ok-tree-in-Program.ensures.ok, inl (c.in_err-program-in-Program.ensures.err, ((refl, refl), refl)));
+      does = inr (inl (c.in_ok-tree-in-Program.tree, c.in_ok-tree-in-Program.ensures.ok, inl (c.in_err-program-in-Program.ensures.err, ((refl, refl), refl))));
       tells = Tells-none g.E.Sink.seen c.args.outputs.now.err;
     })
 
@@ -70,9 +70,9 @@ returns-in_ok-program-in-Program-clause-does g c =
     let tree = c.in_ok-tree-in-Program.tree in
     let l = pass_list (λ p. (goal.Pass-dyn g (p.vtable, p.value)).meaning p.value) (λ p. (goal.Pass-dyn g (p.vtable, p.value)).counts p.value) c.args.passes.now.boxes.now c.on_program.new.passes.boxes.now c.args.passes.now.names.now in
     let from = DoesTree-from (g.F.Files.seen c.args.files.now) (g.F.Files.seen c.linked_tree-in-Program.new.files) (g.F.Files.seen c.on_program.new.files)
-    c.in_ok-tree-in-Program.ensures.holds c.in_ok-tree-in-Program.ensures.faults (command (Program c.in-Program.action)) (status_of c.on_program.result) l tree (text_seen c.args.request.profile) c.args.request.args.now did.told
+    c.in_ok-tree-in-Program.ensures.holds c.in_ok-tree-in-Program.ensures.faults (command (Program c.in-Program.action)) (status_of c.on_program.result) l tree (text_seen c.args.request.second) c.args.request.args.now did.told
     (g.O.Sink.seen c.args.outputs.now.out.now) (g.O.Sink.seen c.on_program.new.outputs.out.now) (inr (c.in_ok-program-in-Program.program.prog, c.in_ok-program-in-Program.ensures.ok, did.does)) in
-    rw c.in-Program.is (record { same_output = did.same_output; told = did.told; does = inr (tree, c.in_ok-tree-in-Program.ensures.ok, from); tells = did.tells })
+    rw c.in-Program.is (record { same_output = did.same_output; told = did.told; does = inr (inl (tree, c.in_ok-tree-in-Program.ensures.ok, from)); tells = did.tells })
 
 -- ---- the demo
 
@@ -94,7 +94,7 @@ returns-in_err-program-in-Demo-clause-does g c =
     rw (c.in-Demo.is, e.1, e.2) (record {
       same_output = refl;
       told = [];
-      does = inr (c.in_ok-tree-in-Demo.tree, c.in_ok-tree-in-Demo.ensures, inl (c.in_err-program-in-Demo.ensures.err, ((refl, refl), refl)));
+      does = inr (inl (c.in_ok-tree-in-Demo.tree, c.in_ok-tree-in-Demo.ensures, inl (c.in_err-program-in-Demo.ensures.err, ((refl, refl), refl))));
       tells = Tells-none g.E.Sink.seen c.args.outputs.now.err;
     })
 
@@ -110,6 +110,22 @@ returns-in_ok-program-in-Demo-clause-does g c =
     rw c.in-Demo.is (record {
       same_output = did.same_output;
       told = did.told;
-      does = inr (c.in_ok-tree-in-Demo.tree, c.in_ok-tree-in-Demo.ensures, inr (c.in_ok-program-in-Demo.program.prog, c.in_ok-program-in-Demo.ensures.ok, inr ([], refl, did.does)));
+      does = inr (inl (c.in_ok-tree-in-Demo.tree, c.in_ok-tree-in-Demo.ensures, inr (c.in_ok-program-in-Demo.program.prog, c.in_ok-program-in-Demo.ensures.ok, inr ([], refl, did.does (text_seen c.args.request.second) (g.F.Files.seen c.args.files.now).holds))));
       tells = did.tells;
+    })
+
+-- ---- bytes
+
+pub returns-in_err-bytes-in-Bytes-clause-does : goal.returns-in_err-bytes-in-Bytes-clause-does
+returns-in_err-bytes-in-Bytes-clause-does g c =
+    let e = err_from_is_err_and c.from_residual-in_err-bytes-in-Bytes.result c.from_residual-in_err-bytes-in-Bytes.ensures.1 in
+    rw (c.in-Bytes.is, e.1, e.2) (record { same_output = refl; told = []; does = inl (c.in_err-bytes-in-Bytes.ensures.err, ((refl, refl), refl)); tells = Tells-none g.E.Sink.seen c.args.outputs.now.err })
+
+pub returns-in_ok-bytes-in-Bytes-clause-does : goal.returns-in_ok-bytes-in-Bytes-clause-does
+returns-in_ok-bytes-in-Bytes-clause-does g c =
+    rw c.in-Bytes.is (record {
+      same_output = refl;
+      told = [];
+      does = inr (inr (c.in_ok-bytes-in-Bytes.bytes, c.in_ok-bytes-in-Bytes.ensures.ok, rw c.as_slice.ensures at c.on_bytes.ensures));
+      tells = Tells-none g.E.Sink.seen c.args.outputs.now.err;
     })

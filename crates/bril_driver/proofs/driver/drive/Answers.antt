@@ -25,7 +25,7 @@ returns-clause-does g c =
     let did = c.do_action.ensures.does in
     let does = λ (boxes : _) (names : List (List ℕ)). DoesFiles (command c.args.request.action) (status_of c.do_action.result)
     (pass_list (λ p. (goal.Pass-dyn g (p.vtable, p.value)).meaning p.value) (λ p. (goal.Pass-dyn g (p.vtable, p.value)).counts p.value) c.args.passes.now boxes names)
-    (g.F.Files.seen c.args.files.now) (g.F.Files.seen c.do_action.new.files) c.args.request.path.now (text_seen c.args.request.profile) c.args.request.args.now did.told (g.O.Sink.seen c.args.outputs.now.out.now) (g.O.Sink.seen c.do_action.new.outputs.out.now) in
+    (g.F.Files.seen c.args.files.now) (g.F.Files.seen c.do_action.new.files) c.args.request.path.now (text_seen c.args.request.second) c.args.request.args.now did.told (g.O.Sink.seen c.args.outputs.now.out.now) (g.O.Sink.seen c.do_action.new.outputs.out.now) in
     let named = subst (λ (names : List (List ℕ)). does c.do_action.new.passes.boxes.now names) (c.in_ok-names.ensures ∙ ap names_of c.list_for.ensures.is) did.does in
     record {
       same_output = did.same_output;

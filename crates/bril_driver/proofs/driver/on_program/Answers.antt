@@ -14,3 +14,18 @@ returns-in-AsItStands-clause-does g c =
 
 pub returns-in-WithPasses-clause-does : goal.returns-in-WithPasses-clause-does
 returns-in-WithPasses-clause-does g c = rw c.in-WithPasses.is c.on_made.ensures.does
+
+pub returns-in-Monitor-clause-does : goal.returns-in-Monitor-clause-does
+returns-in-Monitor-clause-does g c =
+    rw c.in-Monitor.is (record {
+      same_output = refl;
+      told = [];
+      does = ⊎_elim (λ refused. inl (refused.0, (refused.1, refl)))
+          (λ values. inr (
+            values.0,
+            values.1,
+            ⊎_elim (λ refused. inl (refused.0, (refused.1, refl))) (λ orders. inr ([], (refl, (orders.0, orders.1)), inr (c.args.program.prog, refl, orders.2))) values.2,
+          ))
+          c.monitor.ensures.does;
+      tells = Tells-none g.E.Sink.seen c.args.outputs.now.err;
+    })

@@ -19,7 +19,7 @@ own_profile-requires g c =
 pub returns-in_err-profile-clause-does : goal.returns-in_err-profile-clause-does
 returns-in_err-profile-clause-does g c =
     let e = err_from_is_err_and c.from_residual.result c.from_residual.ensures.1 in
-    rw (e.1, e.2) (record { same_output = refl; told = []; does = inl (refl, ((refl, refl), refl)); tells = Tells-none g.E.Sink.seen c.args.outputs.now.err })
+    rw (e.1, e.2) (record { same_output = refl; told = []; does = λ named holds. inl (refl, ((refl, refl), refl)); tells = Tells-none g.E.Sink.seen c.args.outputs.now.err })
 
 pub returns-in_err-profile-clause-same : goal.returns-in_err-profile-clause-same
 returns-in_err-profile-clause-same g c = AllSame-refl (λ p. (goal.Pass-dyn g (p.vtable, p.value)).meaning p.value) c.args.passes.now
@@ -31,7 +31,7 @@ returns-in_err-made-clause-does g c =
     rw (e.1, e.2) (record {
       same_output = refl;
       told = [];
-      does = inr (profile.entries, c.in_ok-profile.ensures, inl (c.in_err-made.ensures.err, (refl, refl)));
+      does = λ named holds. inr (profile.entries, c.in_ok-profile.ensures, inl (c.in_err-made.ensures.err, (refl, refl)));
       tells = Tells-none g.E.Sink.seen c.args.outputs.now.err;
     })
 
@@ -58,7 +58,7 @@ returns-clause-does g c =
     record {
       same_output = did.same_output;
       told = did.told;
-      does = inr (
+      does = λ named holds. inr (
         entries,
         c.in_ok-profile.ensures,
         inr (
@@ -66,7 +66,7 @@ returns-clause-does g c =
           makes,
           ⊎_elim inl (λ went. inr (
             (went.0, went.1, went.2),
-            demo_works l entries source made makes accepted went.0 went.1 alone c.args.functions _ size (status_of c.run_made.result) did.told (g.O.Sink.seen c.args.outputs.now.out.now) (g.O.Sink.seen c.run_made.new.outputs.out.now) went.3,
+            demo_works l entries source made makes accepted went.0 went.1 alone c.args.functions named holds _ size (status_of c.run_made.result) did.told (g.O.Sink.seen c.args.outputs.now.out.now) (g.O.Sink.seen c.run_made.new.outputs.out.now) went.3,
           )) did.does,
         ),
       );

@@ -1,5 +1,5 @@
 -- The image was run, and its line put.
-use Rattle.std.proofs.Common.{[], refl}
+use Rattle.std.proofs.Common.{[], refl, inl}
 use Rattle.std.proofs.lemmas.Result.{err_from_is_err_and}
 use Rattle.bril_commands.proofs.Works.{Shows-flushed, Shows-unflushed}
 use Rattle.bril_commands.specs.commands.Demo.{MadeRuns, demonstrated}
@@ -27,7 +27,7 @@ returns-in_err-hand_on-in-None g c =
     let e = err_from_is_err_and c.from_residual.result c.from_residual.ensures.1 in
     let o = demonstrated (size_seen c.args.counts) (MadeRuns c.args.program.now c.args.limits) in
     let put = goes_on (size_seen c.args.counts) c.args.program.now c.args.limits _ _ c.in-None.ensures _ in
-    rw (e.1, e.2) (record { same_output = refl; told = []; does = (refl, Shows-unflushed o put c.in_err-hand_on-in-None.ensures.kept c.in_err-hand_on-in-None.ensures.err); tells = Tells-none g.E.Sink.seen c.args.outputs.now.err })
+    rw (e.1, e.2) (record { same_output = refl; told = []; does = (refl, inl (Shows-unflushed o put c.in_err-hand_on-in-None.ensures.kept c.in_err-hand_on-in-None.ensures.err)); tells = Tells-none g.E.Sink.seen c.args.outputs.now.err })
 
 pub returns : goal.returns
 returns g c =

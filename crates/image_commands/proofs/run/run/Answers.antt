@@ -9,6 +9,7 @@ use Rattle.bril_commands.specs.commands.Run.{executed, ran, runs}
 use Rattle.bril_commands.specs.PassList.{pass_list}
 use Rattle.bril_report.proofs.Telling.{Tells-none}
 use Rattle.bril_report.specs.StageFaults.{status_of}
+use Rattle.bril_words.specs.Seen.{text_seen}
 use Rattle.pass_law.proofs.Same.{AllSame-refl}
 use Rattle.image_commands.proofs.run.run.Goals as goal
 
@@ -47,8 +48,8 @@ returns-clause-does g c =
     let made = c.in_ok-made.ensures.ok in
     let q = c.in_ok-made.made.prog in
     let shows = run_shows l made.entries c.args.checked.prog q made.made accepted settings.limits settings.limits.frames settings.limits.cells (refl, refl) c.in_ok-values.values fits settings.steps settings.stats in
-    let on = subject (runs settings.limits.frames settings.limits.cells settings.steps settings.stats) l made.entries c.args.checked.prog q made.made c.in_ok-values.values in
-    let works = Works-as (executed q settings.limits c.in_ok-values.values settings.steps settings.stats) (ran on settings.limits.frames settings.limits.cells settings.steps settings.stats) refl refl shows (λ output none. none) did.told _ _ (status_of c.run_with.result) in
+    let on = subject (runs settings.limits.frames settings.limits.cells settings.steps settings.stats) l (text_seen c.args.request.second) (g.F.Files.seen c.args.files.now).holds made.entries c.args.checked.prog q made.made c.in_ok-values.values in
+    let works = Works-as (executed q settings.limits c.in_ok-values.values settings.steps settings.stats) (ran on settings.limits.frames settings.limits.cells settings.steps settings.stats) refl refl shows (λ trap told output none. none) (λ output none. none) did.told _ _ (status_of c.run_with.result) in
     record {
       same_output = did.same_output;
       told = did.told;

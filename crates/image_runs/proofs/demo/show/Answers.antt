@@ -22,7 +22,7 @@ returns-in_err-put g c =
     rw (e.1, e.2) (record {
       same_output = refl;
       told = [];
-      does = (refl, record { ended = Some Ended; told = words_pieces c.args.words; output = _; shows = (refl, refl, ap (λ l. l ∷ []) line); took = inl put });
+      does = (refl, inl (record { ended = Some Ended; told = words_pieces c.args.words; output = _; shows = (refl, refl, ap (λ l. l ∷ []) line); took = inl put }));
       tells = Tells-none g.E.Sink.seen c.args.outputs.now.err;
     })
 
@@ -34,7 +34,7 @@ returns-in_err-hand_on g c =
     rw (e.1, e.2) (record {
       same_output = refl;
       told = [];
-      does = (refl, record { ended = Some Ended; told = words_pieces c.args.words; output = _; shows = (refl, refl, ap (λ l. l ∷ []) line); took = inr (record { between = _; puts = PutsAll-one took c.in_ok-put.ensures.times; flushed = c.in_err-hand_on.ensures.kept; rose = c.in_err-hand_on.ensures.err }) });
+      does = (refl, inl (record { ended = Some Ended; told = words_pieces c.args.words; output = _; shows = (refl, refl, ap (λ l. l ∷ []) line); took = inr (record { between = _; puts = PutsAll-one took c.in_ok-put.ensures.times; flushed = c.in_err-hand_on.ensures.kept; rose = c.in_err-hand_on.ensures.err }) }));
       tells = Tells-none g.E.Sink.seen c.args.outputs.now.err;
     })
 

@@ -1,5 +1,5 @@
 -- The words were executed, and their counts told.
-use Rattle.std.proofs.Common.{◌≢◌, ℕ, [], Option, Some, None, refl}
+use Rattle.std.proofs.Common.{◌≢◌, ℕ, [], Option, Some, None, refl, inl}
 use Rattle.std.proofs.lemmas.Result.{err_from_is_err_and}
 use Rattle.bril_commands.proofs.Works.{Works-ended, Shows-flushed, Shows-unflushed}
 use Rattle.bril_commands.specs.Outcome.{end_status}
@@ -18,13 +18,13 @@ never_exhausted None steps = λ same. cc
 pub returns-in_err-ended-clause-does : goal.returns-in_err-ended-clause-does
 returns-in_err-ended-clause-does g c =
     let e = err_from_is_err_and c.from_residual.result c.from_residual.ensures.1 in
-    rw (e.1, e.2) (record { same_output = refl; told = []; does = (refl, c.in_err-ended.ensures.err); tells = Tells-none g.E.Sink.seen c.args.outputs.now.err })
+    rw (e.1, e.2) (record { same_output = refl; told = []; does = (refl, inl c.in_err-ended.ensures.err); tells = Tells-none g.E.Sink.seen c.args.outputs.now.err })
 
 pub returns-in_err-hand_on-clause-does : goal.returns-in_err-hand_on-clause-does
 returns-in_err-hand_on-clause-does g c =
     let e = err_from_is_err_and c.from_residual-in_err-hand_on.result c.from_residual-in_err-hand_on.ensures.1 in
     let o = executed c.args.program.now c.args.settings.limits c.args.values.now c.args.settings.steps c.args.settings.stats in
-    rw (e.1, e.2) (record { same_output = refl; told = []; does = (refl, Shows-unflushed o c.in_ok-ended.ensures.ok c.in_err-hand_on.ensures.kept c.in_err-hand_on.ensures.err); tells = Tells-none g.E.Sink.seen c.args.outputs.now.err })
+    rw (e.1, e.2) (record { same_output = refl; told = []; does = (refl, inl (Shows-unflushed o c.in_ok-ended.ensures.ok c.in_err-hand_on.ensures.kept c.in_err-hand_on.ensures.err)); tells = Tells-none g.E.Sink.seen c.args.outputs.now.err })
 
 pub returns-clause-does : goal.returns-clause-does
 returns-clause-does g c =

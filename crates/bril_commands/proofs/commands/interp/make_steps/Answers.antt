@@ -10,7 +10,7 @@ pub returns-in-End-clause-ok : goal.returns-in-End-clause-ok
 returns-in-End-clause-ok g c = ended c.args.interp.now c.args.program.now c.args.settings.limits c.args.values.now c.requires c.args.settings.steps _ _ _ c.in-End.end c.in-End.ensures
 
 pub returns-in-WriteFault-clause-err : goal.returns-in-WriteFault-clause-err
-returns-in-WriteFault-clause-err g c = (refl, failed c.args.interp.now c.args.program.now c.args.settings.limits c.args.values.now c.requires c.args.settings.steps _ _ _ c.in-WriteFault.ensures)
+returns-in-WriteFault-clause-err g c = (refl, inl (failed c.args.interp.now c.args.program.now c.args.settings.limits c.args.values.now c.requires c.args.settings.steps _ _ _ c.in-WriteFault.ensures))
 
 pub returns-in-Ok-clause-err : goal.returns-in-Ok-clause-err
 returns-in-Ok-clause-err g c = (refl, exhausted c.args.interp.now c.args.program.now c.args.settings.limits c.args.values.now c.requires c.args.settings.steps _ _ _ c.in-Memory.ensures c.in-Ok.ensures.kept (inl c.in-Ok.ensures.ok))

@@ -27,7 +27,7 @@ returns-in_err-hand_on g c =
     let e = err_from_is_err_and c.from_residual-in_err-hand_on.result c.from_residual-in_err-hand_on.ensures.1 in
     let o = interpreted c.args.checked.now.prog c.args.values.now c.args.settings.limits.frames c.args.settings.limits.cells c.args.settings.steps in
     let put = rw c.prog.ensures.value at c.in_ok-ended.ensures.ok in
-    rw (e.1, e.2) (refl, Shows-unflushed o put c.in_err-hand_on.ensures.kept c.in_err-hand_on.ensures.err)
+    rw (e.1, e.2) (refl, inl (Shows-unflushed o put c.in_err-hand_on.ensures.kept c.in_err-hand_on.ensures.err))
 
 pub returns : goal.returns
 returns g c =

@@ -17,7 +17,7 @@ returns-in_err-put g c =
     let failed = rw c.as_slice.ensures at c.in_err-put.ensures.err in
     let shows : ShowsProfile c.args.checked.now.prog c.args.values.now settings.limits.frames settings.limits.cells settings.steps settings.hot settings.most run.run'.ended (c.in_ok-text.text ∷ []) =
     record { limits = settings.limits; frames_are = refl; cells_are = refl; ends = run.ensures.ended; text = ap (λ l. l ∷ []) (c.in_ok-text.ensures ∙ ap (profile_text Second) run.ensures.profile) } in
-    rw (e.1, e.2) (refl, record { ended = run.run'.ended; told = []; output = c.in_ok-text.text ∷ []; shows = (refl, shows); took = inl (PutSome-one failed.0 c.in_err-put.ensures.times failed.1) })
+    rw (e.1, e.2) (refl, inl (record { ended = run.run'.ended; told = []; output = c.in_ok-text.text ∷ []; shows = (refl, shows); took = inl (PutSome-one failed.0 c.in_err-put.ensures.times failed.1) }))
 
 pub returns-in_err-hand_on : goal.returns-in_err-hand_on
 returns-in_err-hand_on g c =
@@ -29,13 +29,13 @@ returns-in_err-hand_on g c =
     record { limits = settings.limits; frames_are = refl; cells_are = refl; ends = run.ensures.ended; text = ap (λ l. l ∷ []) (c.in_ok-text.ensures ∙ ap (profile_text Second) run.ensures.profile) } in
     rw (e.1, e.2) (
       refl,
-      record {
+      inl (record {
         ended = run.run'.ended;
         told = [];
         output = c.in_ok-text.text ∷ [];
         shows = (refl, shows);
         took = inr (record { between = _; puts = PutsAll-one took c.in_ok-put.ensures.times; flushed = c.in_err-hand_on.ensures.kept; rose = c.in_err-hand_on.ensures.err });
-      },
+      }),
     )
 
 pub returns : goal.returns

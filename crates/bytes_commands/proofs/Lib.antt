@@ -1,0 +1,4 @@
+mod Bare
+mod Executions
+mod Refusals
+mod Stopped

@@ -1,0 +1,7 @@
+pub mod Calls
+pub mod Carrying
+pub mod Entries
+pub mod Marking
+pub mod Pieces
+pub mod Total
+pub mod WordCounts

@@ -1,0 +1,6 @@
+-- The rest has a piece fewer.
+use Rattle.std.proofs.Common.{length}
+use Rattle.monitor_command.proofs.lines.+put_pieces.Given as goal
+
+abbrev pub decreases-put_pieces : goal.decreases-put_pieces
+decreases-put_pieces g l = length l.pieces.now
