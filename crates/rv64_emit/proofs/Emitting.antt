@@ -1,5 +1,5 @@
 -- An accepted program within the bounds has an image, by the homes of a placement.
-use Rattle.std.proofs.Common.{◌≡◌, ℕ, ◌-◌, ◌*◌, ◌^◌, ◌<◌, ◌≤◌, List, length, sym, ap, ◌∙◌, subst, arith, length-append}
+use Rattle.std.proofs.Common.{◌≡◌, ℕ, ◌-◌, ◌*◌, ◌^◌, ◌<◌, ◌≤◌, Bool, List, length, sym, ap, ◌∙◌, subst, arith, length-append}
 use Rattle.std.proofs.lemmas.List.{length-map}
 use Rattle.bril_tree.specs.declared.limits.Limits.{Limits}
 use Rattle.bril_tree.specs.declared.program.Prog.{Prog}
@@ -38,12 +38,12 @@ pub record IsEmitted (p : Prog) (limits : Limits) (image : Image) : Type 0 where
   pub guards : length image.guards ≤ length image.words
   pub stack : IsStackSize p limits image.stack
 
-module _ (p : Prog) (slots : Slots) (limits : Limits) (accepted : IsAccepted p) (literals : AreLiteralsInRange p) (is : IsLowered p slots) (within : IsWithin p limits) (lives : List Live) (placed : Placed) (by : IsPlacedBy p slots lives placed) where
+module _ (marked : Bool) (p : Prog) (slots : Slots) (limits : Limits) (accepted : IsAccepted p) (literals : AreLiteralsInRange p) (is : IsLowered p slots) (within : IsWithin p limits) (lives : List Live) (placed : Placed) (by : IsPlacedBy p slots lives placed) where
   abbrev homes : ℕ → FunctionHomes
-  homes = placed_homes placed lives
+  homes = placed_homes marked placed lives
 
   serve : AllHomesServe homes p slots
-  serve = all_serve p slots lives placed by
+  serve = all_serve marked p slots lives placed by
 
   have : HaveHomes homes slots
   have = have_homes p slots homes is serve
@@ -94,8 +94,8 @@ module _ (p : Prog) (slots : Slots) (limits : Limits) (accepted : IsAccepted p) 
       lowered = is;
       placed = placed;
       are = by.are;
-      implements = subst (λ h. ImplementsAt h image p limits) (homes_placed placed lives) (implements_at p homes slots limits image accepted literals is within serve laid);
-      registers = few_in_registers p slots lives placed by is;
+      implements = subst (λ h. ImplementsAt h image p limits) (homes_placed marked placed lives) (implements_at p homes slots limits image accepted literals is within serve laid);
+      registers = few_in_registers marked p slots lives placed by is;
     };
     words = words_few image laid;
     guards = guards_few image laid;

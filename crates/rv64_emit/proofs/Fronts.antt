@@ -1,5 +1,5 @@
 -- What is said of the image and the points that are laid out from a front.
-use Rattle.std.proofs.Common.{◌≡◌, ℕ, ◌*◌, ◌<◌, List, length, Some, sym, subst}
+use Rattle.std.proofs.Common.{◌≡◌, ℕ, ◌*◌, ◌<◌, Bool, true, List, length, Some, sym, ap, ◌∙◌, subst}
 use Rattle.std.specs.Prelude.{slice_get}
 use Rattle.bril_tree.specs.declared.home.Home.{Home}
 use Rattle.bril_tree.specs.declared.home.Home.TheVariants.{Reg, Frame}
@@ -37,27 +37,27 @@ named_within : (words : ℕ) (home : Home) → IsHomeWithin words home → IsHom
 named_within words (Reg r) h = h
 named_within words (Frame o) h = tt
 
-module _ (p : Prog) (limits : Limits) (accepted : IsAccepted p) (literals : AreLiteralsInRange p) (front : Front) (is : IsFrontOf p limits front) (homes : ℕ → FunctionHomes) (same : homes ≡ placed_homes front.placed front.lives) where
+module _ (p : Prog) (limits : Limits) (accepted : IsAccepted p) (literals : AreLiteralsInRange p) (front : Front) (is : IsFrontOf p limits front) (marked : Bool) (homes : ℕ → FunctionHomes) (same : homes ≡ placed_homes marked front.placed front.lives) where
   by : IsPlacedBy p front.slots front.lives front.placed
   by = record { are = is.placed; tells = is.tells }
 
   serve : AllHomesServe homes p front.slots
-  serve = subst (λ h. AllHomesServe h p front.slots) (sym same) (all_serve p front.slots front.lives front.placed by)
+  serve = subst (λ h. AllHomesServe h p front.slots) (sym same) (all_serve marked p front.slots front.lives front.placed by)
 
   pub front_fits : IsCounted p → SlotsFit homes front.slots
-  front_fits counted = subst (λ h. SlotsFit h front.slots) (sym same) (slots_fit p front.slots limits accepted literals is.lowered is.within front.lives front.placed by counted)
+  front_fits counted = subst (λ h. SlotsFit h front.slots) (sym same) (slots_fit marked p front.slots limits accepted literals is.lowered is.within front.lives front.placed by counted)
 
   pub front_stack : front.stack ≡ limits.frames * largest_frame front.slots
-  front_stack = stack_is p front.slots limits accepted literals is.lowered is.within front.lives front.placed by front.stack is.stack
+  front_stack = stack_is marked p front.slots limits accepted literals is.lowered is.within front.lives front.placed by front.stack is.stack
 
   pub front_emitted : (image : Image) → IsImageOf homes front.slots limits image → IsEmitted p limits image
   front_emitted image laid =
-      emitted p front.slots limits accepted literals is.lowered is.within front.lives front.placed by front.stack is.stack image
+      emitted marked p front.slots limits accepted literals is.lowered is.within front.lives front.placed by front.stack is.stack image
       (subst (λ h. IsImageOf h front.slots limits image) same laid)
 
   module _ (points : Points) (its : ArePointsOf (homes_of homes) (entry_at homes front.slots) p points) where
-    pub front_shown : (image : Image) → IsImageOf homes front.slots limits image → Shows image points p limits
-    front_shown image laid = image_shows p homes front.slots limits image points accepted literals is.lowered is.within serve laid its
+    pub front_shown : marked ≡ true → (image : Image) → IsImageOf homes front.slots limits image → Shows image points p limits
+    front_shown told image laid = image_shows p homes front.slots limits image points accepted literals is.lowered is.within serve (λ f. ap (λ h. (h f).marked) same ∙ told) laid its
 
     pub front_listed : ListsPoints p points
     front_listed = record { homes = homes_of homes; entry = entry_at homes front.slots; are = its; named = named }

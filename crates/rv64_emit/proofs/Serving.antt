@@ -1,5 +1,5 @@
 -- Homes of a placement serve.
-use Rattle.std.proofs.Common.{◌≡◌, ℕ, ◌<◌, true, List, Some, sym, ap, ◌∙◌, subst, arith}
+use Rattle.std.proofs.Common.{◌≡◌, ℕ, ◌<◌, Bool, true, List, Some, sym, ap, ◌∙◌, subst, arith}
 use Rattle.std.specs.Prelude.{◌↔◌, slice_get}
 use Rattle.std.specs.List.{AllZip}
 use Rattle.std.proofs.lemmas.Option.{slice_get_within}
@@ -34,12 +34,12 @@ pub record IsPlacedBy (p : Prog) (slots : Slots) (lives : List Live) (placed : P
   pub are : ArePlaced p slots placed
   pub tells : AllZip TellsLiveIn p.funcs lives
 
-module _ (p : Prog) (slots : Slots) (lives : List Live) (placed : Placed) (is : IsPlacedBy p slots lives placed) where
+module _ (marked : Bool) (p : Prog) (slots : Slots) (lives : List Live) (placed : Placed) (is : IsPlacedBy p slots lives placed) where
   -- ---- one function
 
   module _ (k : ℕ) (f : Func) (there : slice_get p.funcs k ≡ Some f) where
     abbrev own : FunctionHomes
-    own = placed_homes placed lives k
+    own = placed_homes marked placed lives k
 
     homes_same : home_in placed k ≡ home_at own
     homes_same = λ i x. ap (home_in placed k) (sym (location_back x)) i
@@ -74,15 +74,15 @@ module _ (p : Prog) (slots : Slots) (lives : List Live) (placed : Placed) (is : 
 
   -- ---- a program
 
-  pub all_serve : AllHomesServe (placed_homes placed lives) p slots
+  pub all_serve : AllHomesServe (placed_homes marked placed lives) p slots
   all_serve k f g there is_g = serves k f there g is_g
 
   pub few_in_registers : IsLowered p slots → AreFewInRegisters (home_in placed) p
   few_in_registers lowered k f x there few location = let g = lowered_at p slots lowered k f there in is.are.registers k f g.function x there g.there few (slot_in f g.function g.is x location)
 
 -- the homes of slots are those of their locations
-pub homes_placed : (placed : Placed) (lives : List Live) → homes_of (placed_homes placed lives) ≡ home_in placed
-homes_placed placed lives = λ i k x. home_in placed k (location_back x i)
+pub homes_placed : (marked : Bool) (placed : Placed) (lives : List Live) → homes_of (placed_homes marked placed lives) ≡ home_in placed
+homes_placed marked placed lives = λ i k x. home_in placed k (location_back x i)
 
 -- slots in registers are among the first ones
 pub registers_near : (f : Func) (g : SlotFunction) → IsLoweredFunction f g → (homes : FunctionHomes) → AreHomes g homes → AreRegistersNear homes g

@@ -1,4 +1,4 @@
-// Where the slots of a program's functions are, which of them speculations keep, and which are live.
+// Where the slots of a program's functions are, which of them speculations keep, and which are live; and whether items are marked.
 
 ghost use Rattle.std.specs.Prelude.{◌≡◌};
 ghost use Rattle.bril_tree.specs.Place.{location_of};
@@ -13,9 +13,11 @@ use live_sets::Live;
 use shadow_place::Placed;
 use slot_code::Slot;
 
-/// The homes of all functions, by a placement, and by what is live in each function.
+/// The homes of all functions, by a placement, and by what is live in each function. Where items are marked, each but a label and
+/// `nop` has a word.
 #[derive(Clone, Copy, Drop)]
 pub struct ProgramHomes<'a> {
+    marked: bool,
     placed: &'a Placed,
     lives: &'a [Live],
 }
@@ -23,6 +25,7 @@ pub struct ProgramHomes<'a> {
 /// Those of one function.
 #[derive(Clone, Copy, Drop)]
 pub struct SlotHomes<'a> {
+    marked: bool,
     placed: &'a Placed,
     lives: &'a [Live],
     function: u32,
@@ -49,11 +52,15 @@ fn is_live_slot(live: &Live, point: u32, slot: Slot) -> bool
 }
 
 impl<'a> ProgramHomes<'a> {
-    /// The homes of a placement, and of the tables of what is live in each function, in order.
-    pub fn of(placed: &'a Placed, lives: &'a [Live]) -> ProgramHomes<'a>
-        ensures { all_homes result ≡ placed_homes placed.now lives.now }
+    /// The homes of a placement, and of the tables of what is live in each function, in order, with items marked or not.
+    pub fn of(marked: bool, placed: &'a Placed, lives: &'a [Live]) -> ProgramHomes<'a>
+        ensures { all_homes result ≡ placed_homes marked placed.now lives.now }
     {
-        ProgramHomes { placed, lives }
+        ProgramHomes {
+            marked,
+            placed,
+            lives,
+        }
     }
 
     /// Those of a function.
@@ -61,6 +68,7 @@ impl<'a> ProgramHomes<'a> {
         ensures { homes_in result ≡ all_homes self.now function }
     {
         SlotHomes {
+            marked: self.marked,
             placed: self.placed,
             lives: self.lives,
             function,
@@ -69,6 +77,13 @@ impl<'a> ProgramHomes<'a> {
 }
 
 impl<'a> SlotHomes<'a> {
+    /// Whether items are marked.
+    pub fn is_marked(&self) -> bool
+        ensures { result ≡ (homes_in self.now).marked }
+    {
+        self.marked
+    }
+
     /// Where a slot is.
     pub fn home(&self, slot: Slot) -> Home
         ensures { result ≡ (homes_in self.now).home slot }

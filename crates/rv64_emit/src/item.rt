@@ -1,29 +1,29 @@
 // The words of an item, and how many they are.
 
-ghost use Rattle.std.specs.Prelude.{◌≡◌, ◌+◌, ◌<◌, ◌≤◌, ◌++◌, ℕ, map, length, OnOk};
+ghost use Rattle.std.specs.Prelude.{true, ◌≡◌, ◌+◌, ◌<◌, ◌≤◌, ◌++◌, ℕ, map, length, OnOk};
 ghost use Rattle.rv64_emit.specs.Moved.{AreMovableAt};
 ghost use Rattle.rv64_emit.specs.Placed.{homes_in};
 ghost use Rattle.rv64_emit.specs.Tables.{table_at};
 ghost use Rattle.rv64_emit_laws.specs.layout.Fits.{ItemFits};
 ghost use Rattle.rv64_emit_laws.specs.layout.Items.{item_size, item_words};
+ghost use Rattle.rv64_emit_laws.specs.layout.Reach.{is_in_reach};
 ghost use Rattle.rv64_words.specs.Encoding.{encoded};
 ghost use Rattle.rv64_words.specs.Region.{most_words};
 
 use crate::frame::word_of;
 use crate::homes::SlotHomes;
 use crate::items::{
-    put_alloc, put_binary_item, put_branch, put_call, put_commit, put_free, put_guard, put_jump,
-    put_load_item, put_print, put_return, put_speculate, put_store_item, put_unary_item, put_value,
+    put_alloc, put_binary_item, put_branch, put_call, put_copied, put_free, put_guard, put_jump,
+    put_load_item, put_mark, put_print, put_return, put_speculate, put_store_item, put_unary_item,
+    put_value,
 };
-use crate::moves::{
-    Transfer, copy_size_of, fetch_size_of, fill_size_of, put_copy, source_size_of, target_size_of,
-};
+use crate::moves::{Transfer, fetch_size_of, fill_size_of, source_size_of, target_size_of};
 use crate::places::place;
 use crate::saves::SlotMoves;
 use crate::sequences::constant_size_of;
 use crate::sizes::{
-    after_call_size, before_call_size, binary_item_size, guard_front_size, print_size_of,
-    returned_size_of, unary_item_size,
+    after_call_size, before_call_size, binary_item_size, branch_size_of, copied_size_of,
+    guard_front_size, jump_size_of, mark_size_of, print_size_of, returned_size_of, unary_item_size,
 };
 use bril_tree::sequence::Seq;
 use slot_code::{SlotFunction, SlotItem};
@@ -47,19 +47,26 @@ pub fn put_item(
     requires movable { AreMovableAt (homes_in homes.now) func.now point }
     requires fits { ItemFits (homes_in homes.now) func.now point item.now }
     requires here { length code.old + item_size (homes_in homes.now) func.now point item.now ≤ most_words }
+    requires near { (to : ℕ) → is_in_reach func.now point to ≡ true → (table_at entries.now to ≤ length code.old + 988) × (length code.old ≤ table_at entries.now to + 988) }
     ensures { OnOk result (code.new ≡ code.old ++ map encoded
         (item_words (homes_in homes.now) (table_at starts.now) (table_at entries.now) func.now point (length code.old) item.now)) }
 {
     match item {
         SlotItem::Pass => Ok(()),
         SlotItem::Constant { dest, value } => put_value(code, homes.variable(*dest), *value),
-        SlotItem::Copy { dest, from } => put_copy(code, homes.home(*dest), homes.home(*from)),
+        SlotItem::Copy { dest, from } => put_copied(
+            code,
+            homes,
+            homes.home(*dest),
+            homes.home(*from),
+        ),
         SlotItem::Unary {
             operation,
             dest,
             operand,
         } => put_unary_item(
             code,
+            homes,
             *operation,
             homes.variable(*dest),
             homes.variable(*operand),
@@ -78,7 +85,7 @@ pub fn put_item(
                 homes.variable(*second),
             )
         }
-        SlotItem::Jump { to } => put_jump(code, place(entries, *to)),
+        SlotItem::Jump { to } => put_jump(code, entries, homes, point, *to),
         SlotItem::Branch {
             condition,
             then_to,
@@ -87,6 +94,8 @@ pub fn put_item(
             put_branch(
                 code,
                 entries,
+                func,
+                point,
                 homes.variable(*condition),
                 *then_to,
                 *else_to,
@@ -126,7 +135,7 @@ pub fn put_item(
             homes.variable(*pointer),
         ),
         SlotItem::Speculate => put_speculate(code, homes, func, point),
-        SlotItem::Commit => put_commit(code),
+        SlotItem::Commit => put_mark(code, homes),
         SlotItem::Guard {
             condition,
             abort_to,
@@ -155,12 +164,23 @@ pub fn size_of(homes: &SlotHomes<'_>, func: &SlotFunction, point: u32, item: &Sl
         SlotItem::Pass => 0,
         SlotItem::Constant { dest, value } => constant_size_of(word_of(*value))
             + target_size_of(homes.variable(*dest)),
-        SlotItem::Copy { dest, from } => copy_size_of(homes.home(*dest), homes.home(*from)),
+        SlotItem::Copy { dest, from } => copied_size_of(
+            homes,
+            homes.home(*dest),
+            homes.home(*from),
+        ),
         SlotItem::Unary {
             operation,
             dest,
             operand,
-        } => { unary_item_size(*operation, homes.variable(*dest), homes.variable(*operand)) }
+        } => {
+            unary_item_size(
+                homes,
+                *operation,
+                homes.variable(*dest),
+                homes.variable(*operand),
+            )
+        }
         SlotItem::Binary {
             operation,
             dest,
@@ -174,8 +194,15 @@ pub fn size_of(homes: &SlotHomes<'_>, func: &SlotFunction, point: u32, item: &Sl
                 homes.variable(*second),
             )
         }
-        SlotItem::Jump { .. } => 1,
-        SlotItem::Branch { condition, .. } => source_size_of(homes.variable(*condition)) + 3,
+        SlotItem::Jump { to } => jump_size_of(homes, point, *to),
+        SlotItem::Branch {
+            condition,
+            then_to,
+            else_to,
+        } => {
+            source_size_of(homes.variable(*condition))
+                + branch_size_of(func, point, *then_to, *else_to)
+        }
         SlotItem::Call { dest, args, .. } => before_call_size(
             homes,
             func,
@@ -196,8 +223,10 @@ pub fn size_of(homes: &SlotHomes<'_>, func: &SlotFunction, point: u32, item: &Sl
         SlotItem::Load { dest, pointer } => fetch_size_of(homes.variable(*pointer))
             + 20
             + target_size_of(homes.variable(*dest)),
-        SlotItem::Speculate => { SlotMoves::kept(homes, func, point).size(Transfer::Save) + 1 }
-        SlotItem::Commit => 1,
+        SlotItem::Speculate => {
+            SlotMoves::kept(homes, func, point).size(Transfer::Save) + mark_size_of(homes)
+        }
+        SlotItem::Commit => mark_size_of(homes),
         SlotItem::Guard {
             condition,
             abort_to,

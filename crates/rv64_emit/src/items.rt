@@ -1,6 +1,6 @@
 // The words of items at the end of an image.
 
-ghost use Rattle.std.specs.Prelude.{ℕ, ◌≡◌, ◌+◌, ◌^◌, ◌<◌, ◌≤◌, ◌∷◌, [], ◌++◌, map, pos, length, OnOk};
+ghost use Rattle.std.specs.Prelude.{ℕ, true, suc, ◌≤ℤ◌, ◌<ℤ◌, neg_ℤ, ◌≡◌, ◌+◌, ◌-◌, ◌*◌, ◌%◌, ◌^◌, ◌<◌, ◌≤◌, ◌∷◌, [], ◌++◌, map, pos, length, OnOk};
 ghost use Rattle.std.specs.List.{AllByRecursion};
 ghost use Rattle.bril_tree.specs.FunctionForm.{listed};
 ghost use Rattle.bril_tree.specs.Value as values;
@@ -10,11 +10,13 @@ ghost use Rattle.rv64_emit.specs.Tables.{table_at};
 ghost use Rattle.rv64_emit_laws.specs.layout.Fits.{IsReached, frame_reach};
 ghost use Rattle.rv64_emit_laws.specs.layout.Homes.{speculate_moves, variable_home};
 ghost use Rattle.rv64_emit_laws.specs.layout.Items as items;
+ghost use Rattle.rv64_emit_laws.specs.layout.Reach as reach;
 ghost use Rattle.rv64_words_laws.specs.sequences.Moves as moves;
 ghost use Rattle.rv64_words_laws.specs.sequences.Operations as operations;
 ghost use Rattle.rv64_words_laws.specs.sequences.Sequences.{constant_words, jump_offset, store_words};
 ghost use Rattle.rv64_words.specs.Calls.{call_number};
 ghost use Rattle.rv64_words.specs.Encoding.{encoded};
+ghost use Rattle.rv64_words.specs.Fields.{bits_13};
 ghost use Rattle.rv64_words.specs.Mnemonics as mnemonics;
 ghost use Rattle.rv64_words.specs.Region.{most_words};
 
@@ -35,7 +37,9 @@ use crate::saves::SlotMoves;
 use crate::sequences::{
     environment_call, fault, jump, number, put, put_constant, put_frame_up, put_store,
 };
-use crate::sizes::{before_call_size, guard_front_size};
+use crate::sizes::{
+    before_call_size, guard_front_size, is_in_reach, is_next, is_same_home, reaches_over,
+};
 use bril_tree::home::Home;
 use bril_tree::limits::Fault;
 use bril_tree::operators::{BinaryOp, UnaryOp};
@@ -47,6 +51,42 @@ use rv64_words::field::Immediate;
 use rv64_words::word::{Condition, Word};
 use slot_code::{Printed, SlotFunction};
 use std::alloc::AllocError;
+
+// ---- items for which nothing is to be done
+
+// The word that does nothing.
+fn nop() -> Word
+    ensures { result ≡ items.nop_word }
+{
+    addi(ZERO, ZERO, number(0))
+}
+
+/// The word of such an item, where items are marked, else none.
+pub fn put_mark(code: &mut Seq<u32>, homes: &SlotHomes<'_>) -> Result<(), AllocError>
+    ensures { OnOk result (code.new ≡ code.old ++ map encoded (items.mark_words (homes_in homes.now))) }
+{
+    if homes.is_marked() {
+        return put(code, &[nop()]);
+    }
+    Ok(())
+}
+
+/// What one home has into another: nothing is to be done where the two are one.
+pub fn put_copied(
+    code: &mut Seq<u32>,
+    homes: &SlotHomes<'_>,
+    dest: Home,
+    from: Home,
+) -> Result<(), AllocError>
+    requires dest { IsReached dest }
+    requires from { IsReached from }
+    ensures { OnOk result (code.new ≡ code.old ++ map encoded (items.copied_words (homes_in homes.now) dest from)) }
+{
+    if is_same_home(dest, from) {
+        return put_mark(code, homes);
+    }
+    put_copy(code, dest, from)
+}
 
 // ---- values
 
@@ -88,16 +128,17 @@ fn put_computed(
 /// What an operation computes from one home into another.
 pub fn put_unary_item(
     code: &mut Seq<u32>,
+    homes: &SlotHomes<'_>,
     operation: UnaryOp,
     dest: Home,
     operand: Home,
 ) -> Result<(), AllocError>
     requires dest { IsReached dest }
     requires operand { IsReached operand }
-    ensures { OnOk result (code.new ≡ code.old ++ map encoded (items.unary_item_words operation dest operand)) }
+    ensures { OnOk result (code.new ≡ code.old ++ map encoded (items.unary_item_words (homes_in homes.now) operation dest operand)) }
 {
     match operation {
-        UnaryOp::CharToInt => put_copy(code, dest, operand),
+        UnaryOp::CharToInt => put_copied(code, homes, dest, operand),
         UnaryOp::Not => put_computed(code, UnaryOp::Not, dest, operand),
         UnaryOp::IntToChar => put_computed(code, UnaryOp::IntToChar, dest, operand),
     }
@@ -132,14 +173,26 @@ pub fn put_binary_item(
 
 // ---- jumps
 
-/// A jump to an item.
-pub fn put_jump(code: &mut Seq<u32>, to: u32) -> Result<(), AllocError>
+/// The jump at a point to an item: none where that is the next one.
+pub fn put_jump(
+    code: &mut Seq<u32>,
+    entries: &[u32],
+    homes: &SlotHomes<'_>,
+    point: u32,
+    to: u32,
+) -> Result<(), AllocError>
     requires here { length code.old ≤ most_words }
-    requires to { to ≤ most_words }
-    ensures { OnOk result (code.new ≡ code.old ++ map encoded (Word.Jal 0 (jump_offset (length code.old) to) ∷ [])) }
+    requires point { point < 2 ^ 32 - 1 }
+    requires some_entries { 0 < length entries.now }
+    requires few_entries { (k : ℕ) → table_at entries.now k ≤ most_words }
+    ensures { OnOk result (code.new ≡ code.old ++ map encoded
+        (items.jump_words (homes_in homes.now) (table_at entries.now) point (length code.old) to)) }
 {
+    if is_next(point, to) {
+        return put_mark(code, homes);
+    }
     let here = code.as_slice().len() as u32;
-    put(code, &[jump(ZERO, here, to)])
+    put(code, &[jump(ZERO, here, place(entries, to))])
 }
 
 // To one item where a register isn't 0, else to another; the jump to the first is word `at` of the image. Three words: a branch
@@ -159,33 +212,141 @@ fn ways(condition: u8, at: u32, then_to: u32, else_to: u32) -> [Word; 3]
     ]
 }
 
-/// A jump to one item where a home has true, else to another. The table has the words at which items begin.
+// The bytes from a word of the image to one that is near.
+fn near_bytes(from: u32, to: u32) -> i16
+    requires down { from ≤ to + 1000 }
+    requires up { to ≤ from + 1000 }
+    requires few { from ≤ most_words }
+    ensures value { result ≡ jump_offset from to }
+    ensures low { neg_ℤ (pos 4096) ≤ℤ result }
+    ensures high { result <ℤ pos 4096 }
+    ensures even { bits_13 result % 2 ≡ 0 }
+{
+    if from <= to {
+        4 * (to - from) as i16
+    } else {
+        -(4 * (from - to) as i16)
+    }
+}
+
+// To an item from word `at` of the image at a point, where a register and 0 meet a condition, else on. The other condition is the
+// opposite one.
+fn put_way(
+    code: &mut Seq<u32>,
+    entries: &[u32],
+    func: &SlotFunction,
+    point: u32,
+    at: u32,
+    leads: Condition,
+    skips: Condition,
+    register: u8,
+    to: u32,
+) -> Result<(), AllocError>
+    requires at { at < most_words }
+    requires near { reach.is_in_reach func.now point to ≡ true → (table_at entries.now to ≤ at + 1000) × (at ≤ table_at entries.now to + 1000) }
+    requires register { register < 32 }
+    requires some_entries { 0 < length entries.now }
+    requires few_entries { (k : ℕ) → table_at entries.now k ≤ most_words }
+    ensures { OnOk result (code.new ≡ code.old ++ map encoded (items.way_words func.now (table_at entries.now) point at leads skips register to)) }
+{
+    let word = place(entries, to);
+    if is_in_reach(func, point, to) {
+        return put(code, &[branch(leads, register, ZERO, near_bytes(at, word))]);
+    }
+    put(
+        code,
+        &[branch(skips, register, ZERO, 8), jump(ZERO, at + 1, word)],
+    )
+}
+
+// The words of a branch at a point behind those of its condition, which a register has; they begin at word `at` of the image. Where
+// one item is the next they lead to the other.
+fn put_ways(
+    code: &mut Seq<u32>,
+    entries: &[u32],
+    func: &SlotFunction,
+    point: u32,
+    at: u32,
+    condition: u8,
+    then_to: u32,
+    else_to: u32,
+) -> Result<(), AllocError>
+    requires at { at + items.branch_size func.now point then_to else_to ≤ most_words }
+    requires near_then { reach.is_in_reach func.now point then_to ≡ true → (table_at entries.now then_to ≤ at + 1000) × (at ≤ table_at entries.now then_to + 1000) }
+    requires near_else { reach.is_in_reach func.now point else_to ≡ true → (table_at entries.now else_to ≤ at + 1000) × (at ≤ table_at entries.now else_to + 1000) }
+    requires point { point < 2 ^ 32 - 1 }
+    requires condition { condition < 32 }
+    requires some_entries { 0 < length entries.now }
+    requires few_entries { (k : ℕ) → table_at entries.now k ≤ most_words }
+    ensures { OnOk result (code.new ≡ code.old ++ map encoded (items.branch_words func.now (table_at entries.now) point at condition then_to else_to)) }
+{
+    if is_next(point, else_to) {
+        let leads = Condition::Ne;
+        return put_way(
+            code,
+            entries,
+            func,
+            point,
+            at,
+            leads,
+            Condition::Eq,
+            condition,
+            then_to,
+        );
+    }
+    if is_next(point, then_to) {
+        let leads = Condition::Eq;
+        return put_way(
+            code,
+            entries,
+            func,
+            point,
+            at,
+            leads,
+            Condition::Ne,
+            condition,
+            else_to,
+        );
+    }
+    let then_word = place(entries, then_to);
+    put(
+        code,
+        &ways(condition, at + 1, then_word, place(entries, else_to)),
+    )
+}
+
+/// The branch at a point: to one item where a home has true, else to another. The table has the words at which items begin.
 #[tactic(auto, using(crate::proofs::Appending::put_then))]
 pub fn put_branch(
     code: &mut Seq<u32>,
     entries: &[u32],
+    func: &SlotFunction,
+    point: u32,
     condition: Home,
     then_to: u32,
     else_to: u32,
 ) -> Result<(), AllocError>
-    requires here { length code.old + (moves.source_size condition + 3) ≤ most_words }
+    requires here { length code.old + (moves.source_size condition + items.branch_size func.now point then_to else_to) ≤ most_words }
+    requires near_then { reach.is_in_reach func.now point then_to ≡ true → (table_at entries.now then_to ≤ length code.old + 988) × (length code.old ≤ table_at entries.now then_to + 988) }
+    requires near_else { reach.is_in_reach func.now point else_to ≡ true → (table_at entries.now else_to ≤ length code.old + 988) × (length code.old ≤ table_at entries.now else_to + 988) }
+    requires point { point < 2 ^ 32 - 1 }
     requires condition { IsReached condition }
     requires some_entries { 0 < length entries.now }
     requires few_entries { (k : ℕ) → table_at entries.now k ≤ most_words }
     ensures { let at = length code.old + moves.source_size condition in OnOk result (code.new ≡ code.old ++ map encoded
-        (moves.source_words 5 condition ++ mnemonics.beq (moves.register_for 5 condition) 0 (pos 8) ∷ Word.Jal 0 (jump_offset (at + 1) (table_at entries.now then_to))
-        ∷ Word.Jal 0 (jump_offset (at + 2) (table_at entries.now else_to)) ∷ [])) }
+        (moves.source_words 5 condition ++ items.branch_words func.now (table_at entries.now) point at (moves.register_for 5 condition) then_to else_to)) }
 {
     let at = code.as_slice().len() as u32 + source_size_of(condition);
     put_source(code, FIRST, condition)?;
-    put(
+    put_ways(
         code,
-        &ways(
-            register_for(FIRST, condition),
-            at + 1,
-            place(entries, then_to),
-            place(entries, else_to),
-        ),
+        entries,
+        func,
+        point,
+        at,
+        register_for(FIRST, condition),
+        then_to,
+        else_to,
     )
 }
 
@@ -449,13 +610,6 @@ pub fn put_load_item(code: &mut Seq<u32>, dest: Home, pointer: Home) -> Result<(
 
 // ---- speculation
 
-// The word that does nothing.
-fn nop() -> Word
-    ensures { result ≡ items.nop_word }
-{
-    addi(ZERO, ZERO, number(0))
-}
-
 /// The `speculate` at a point: slots are kept at a new level.
 #[tactic(auto, using(crate::proofs::Appending::put_then))]
 pub fn put_speculate(
@@ -466,29 +620,38 @@ pub fn put_speculate(
 ) -> Result<(), AllocError>
     requires { AreMovableAt (homes_in homes.now) func.now point }
     ensures { OnOk result (code.new ≡ code.old ++ map encoded
-        (moves.save_words (speculate_moves (homes_in homes.now) func.now point) ++ items.nop_word ∷ [])) }
+        (moves.save_words (speculate_moves (homes_in homes.now) func.now point) ++ items.mark_words (homes_in homes.now))) }
 {
     SlotMoves::kept(homes, func, point).put(code, Transfer::Save)?;
-    put_commit(code)
+    put_mark(code, homes)
 }
 
-/// A `commit`: nothing is left to do, and it has a word of its own.
-pub fn put_commit(code: &mut Seq<u32>) -> Result<(), AllocError>
-    ensures { OnOk result (code.new ≡ code.old ++ map encoded (items.nop_word ∷ [])) }
+// The bytes that a branch over so many words leads on.
+fn bytes_over(count: u32) -> i16
+    requires { count < 1023 }
+    ensures value { result ≡ pos (4 * suc count) }
+    ensures even { bits_13 result % 2 ≡ 0 }
 {
-    put(code, &[nop()])
+    4 * (count + 1) as i16
 }
 
-// Over the rest of a guard where a register isn't 0.
-fn over_rest(condition: u8, rest: u32) -> [Word; 2]
+// Over so many words where a register isn't 0. A branch reaches 4 KiB only; over more it skips a jump, which reaches the whole image.
+fn put_skip(code: &mut Seq<u32>, condition: u8, count: u32) -> Result<(), AllocError>
     requires condition { condition < 32 }
-    requires rest { 2 + rest ≤ most_words }
-    ensures { result ≡ mnemonics.beq condition 0 (pos 8) ∷ Word.Jal 0 (jump_offset 0 (2 + rest)) ∷ [] }
+    requires count { items.skip_size count + count ≤ most_words + 1 }
+    ensures { OnOk result (code.new ≡ code.old ++ map encoded (items.skip_words condition count)) }
 {
-    [
-        branch(Condition::Eq, condition, ZERO, 8),
-        jump(ZERO, 0, 2 + rest),
-    ]
+    if reaches_over(count) {
+        let over = branch(Condition::Ne, condition, ZERO, bytes_over(count));
+        return put(code, &[over]);
+    }
+    put(
+        code,
+        &[
+            branch(Condition::Eq, condition, ZERO, 8),
+            jump(ZERO, 0, count + 1),
+        ],
+    )
 }
 
 // The words of the guard at a point before its last.
@@ -509,9 +672,10 @@ fn put_guard_front(
     let home = homes.variable(condition);
     let back = SlotMoves::taken_back(homes, func, point, label);
     put_source(code, FIRST, home)?;
-    put(
+    put_skip(
         code,
-        &over_rest(register_for(FIRST, home), back.size(Transfer::Restore)),
+        register_for(FIRST, home),
+        1 + back.size(Transfer::Restore),
     )?;
     back.put(code, Transfer::Restore)
 }

@@ -76,11 +76,11 @@ pub fn emit(alloc: Global, prog: &Checked, limits: Limits) -> Result<Image, Emit
 {
     literals_are_in_range(prog.prog());
     let front = front_of(alloc, prog, limits)?;
-    let homes = ProgramHomes::of(&front.placed, front.lives.as_slice());
+    let homes = ProgramHomes::of(false, &front.placed, front.lives.as_slice());
     Ok(image_of(alloc, &homes, &front.slots, limits, front.stack)?)
 }
 
-/// The image of an accepted program as `emit` makes it, with the points at which a stepping monitor may stop: one for each item
+/// An image of an accepted program, in which each item other than a label and `nop` has a word, with the points at which a stepping monitor may stop: one for each item
 /// other than a label and `nop` that some walk leads to, in order, with the word at which the item begins and the variables that
 /// are live there, in order, with their types and homes. The machine is before the word of a point exactly where the program is
 /// at its item; then each of these variables is at its home, and both have printed the same.
@@ -102,7 +102,7 @@ pub fn emit_points(
     literals_are_in_range(prog.prog());
     let front = front_of(alloc, prog, limits)?;
     let lives = front.lives.as_slice();
-    let homes = ProgramHomes::of(&front.placed, lives);
+    let homes = ProgramHomes::of(true, &front.placed, lives);
     let image = image_of(alloc, &homes, &front.slots, limits, front.stack)?;
     let points = points_of(alloc, prog.prog(), &homes, &front.slots, lives)?;
     Ok((image, points))

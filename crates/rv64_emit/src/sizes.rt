@@ -1,11 +1,13 @@
 // How many words items have.
 
-ghost use Rattle.std.specs.Prelude.{◌≡◌, ◌+◌, ◌*◌, ◌≤◌, ◌<◌, length};
+ghost use Rattle.std.specs.Prelude.{◌≡◌, ◌+◌, ◌-◌, ◌*◌, ◌^◌, ◌≤◌, ◌<◌, length, take, drop};
+ghost use Rattle.std.specs.List.{list_all};
 ghost use Rattle.rv64_emit.specs.Moved.{AreMovableAt};
 ghost use Rattle.rv64_emit.specs.Placed.{homes_in};
 ghost use Rattle.rv64_emit_laws.specs.layout.Fits.{frame_reach};
 ghost use Rattle.rv64_emit_laws.specs.layout.Homes.{call_moves, variable_home};
 ghost use Rattle.rv64_emit_laws.specs.layout.Items as items;
+ghost use Rattle.rv64_emit_laws.specs.layout.Reach as reach;
 ghost use Rattle.rv64_words_laws.specs.sequences.Moves as moves;
 ghost use Rattle.rv64_words_laws.specs.sequences.Operations.{unary_size, unary_takes_any};
 ghost use Rattle.rv64_words.specs.Region.{most_words};
@@ -23,7 +25,41 @@ use crate::saves::SlotMoves;
 use crate::sequences::{frame_up_size_of, store_size_of};
 use bril_tree::home::Home;
 use bril_tree::operators::{BinaryOp, UnaryOp};
-use slot_code::{Printed, SlotFunction};
+use slot_code::{Printed, SlotFunction, SlotItem};
+
+// ---- items for which nothing is to be done
+
+/// How many words such an item has.
+pub fn mark_size_of(homes: &SlotHomes<'_>) -> u32
+    ensures value { result ≡ items.mark_size (homes_in homes.now) }
+    ensures few { result ≤ 1 }
+{
+    if homes.is_marked() { 1 } else { 0 }
+}
+
+/// Whether two homes are one.
+pub fn is_same_home(dest: Home, from: Home) -> bool
+    ensures { result ≡ items.same_home dest from }
+{
+    match (dest, from) {
+        (Home::Reg(a), Home::Reg(b)) => a == b,
+        (Home::Frame(a), Home::Frame(b)) => a == b,
+        (Home::Reg(_), Home::Frame(_)) => false,
+        (Home::Frame(_), Home::Reg(_)) => false,
+    }
+}
+
+/// How many words bring what one home has into another, or mark that the two are one.
+pub fn copied_size_of(homes: &SlotHomes<'_>, dest: Home, from: Home) -> u32
+    ensures value { result ≡ items.copied_size (homes_in homes.now) dest from }
+    ensures few { result ≤ 6 }
+{
+    if is_same_home(dest, from) {
+        mark_size_of(homes)
+    } else {
+        copy_size_of(dest, from)
+    }
+}
 
 // ---- operations
 
@@ -37,12 +73,12 @@ fn computed_size(operation: UnaryOp, dest: Home, operand: Home) -> u32
 }
 
 /// How many words compute from one home into another.
-pub fn unary_item_size(operation: UnaryOp, dest: Home, operand: Home) -> u32
-    ensures value { result ≡ items.unary_item_size operation dest operand }
+pub fn unary_item_size(homes: &SlotHomes<'_>, operation: UnaryOp, dest: Home, operand: Home) -> u32
+    ensures value { result ≡ items.unary_item_size (homes_in homes.now) operation dest operand }
     ensures few { result ≤ 14 }
 {
     match operation {
-        UnaryOp::CharToInt => copy_size_of(dest, operand),
+        UnaryOp::CharToInt => copied_size_of(homes, dest, operand),
         UnaryOp::Not => computed_size(UnaryOp::Not, dest, operand),
         UnaryOp::IntToChar => computed_size(UnaryOp::IntToChar, dest, operand),
     }
@@ -58,6 +94,114 @@ pub fn binary_item_size(operation: BinaryOp, dest: Home, first: Home, second: Ho
         + operand_size_of(any, second)
         + binary_size_of(operation)
         + result_size_of(any, dest)
+}
+
+// ---- items that one branch reaches
+
+// Whether an item has at most 26 words.
+fn is_short(item: &SlotItem) -> bool
+    ensures { result ≡ reach.is_short item.now }
+{
+    match item {
+        SlotItem::Call { .. } => false,
+        SlotItem::Print { .. } => false,
+        SlotItem::Speculate => false,
+        SlotItem::Guard { .. } => false,
+        _ => true,
+    }
+}
+
+// The items of a function from one on: none past the last.
+fn items_from(func: &SlotFunction, from: u32) -> &[SlotItem]
+    ensures { result.now ≡ drop from func.now.code }
+{
+    let code = func.code.as_slice();
+    let start = (from as usize).min(code.len());
+    &code[start..]
+}
+
+// So many items, or all where they are fewer.
+fn first_items(items: &[SlotItem], count: u32) -> &[SlotItem]
+    ensures { result.now ≡ take count items.now }
+{
+    let many = (count as usize).min(items.len());
+    &items[..many]
+}
+
+// Whether each of these items is short.
+fn are_short(items: &[SlotItem]) -> bool
+    ensures { result ≡ list_all reach.is_short items.now }
+{
+    items.iter().all(|item| is_short(item))
+}
+
+// Whether at most 38 items are between two, the first of these among them, and each is short.
+fn is_close(func: &SlotFunction, from: u32, to: u32) -> bool
+    requires { from ≤ to }
+    ensures { result ≡ reach.is_close func.now from to }
+{
+    let count = to - from;
+    if count > 38 {
+        return false;
+    }
+    are_short(first_items(items_from(func, from), count))
+}
+
+/// Whether a branch at a point reaches an item.
+pub fn is_in_reach(func: &SlotFunction, point: u32, to: u32) -> bool
+    ensures { result ≡ reach.is_in_reach func.now point to }
+{
+    if point < to {
+        is_close(func, point, to)
+    } else {
+        is_close(func, to, point)
+    }
+}
+
+// ---- jumps and branches
+
+/// Whether an item is the one behind that at a point.
+pub fn is_next(point: u32, to: u32) -> bool
+    requires { point < 2 ^ 32 - 1 }
+    ensures { result ≡ items.is_next point to }
+{
+    to == point + 1
+}
+
+/// How many words the jump at a point has.
+pub fn jump_size_of(homes: &SlotHomes<'_>, point: u32, to: u32) -> u32
+    requires { point < 2 ^ 32 - 1 }
+    ensures value { result ≡ items.jump_size (homes_in homes.now) point to }
+    ensures few { result ≤ 1 }
+{
+    if is_next(point, to) {
+        mark_size_of(homes)
+    } else {
+        1
+    }
+}
+
+// How many words lead from a point to an item, or on.
+fn way_size_of(func: &SlotFunction, point: u32, to: u32) -> u32
+    ensures value { result ≡ items.way_size func.now point to }
+    ensures few { result ≤ 2 }
+{
+    if is_in_reach(func, point, to) { 1 } else { 2 }
+}
+
+/// How many words of the branch at a point come behind those of its condition.
+pub fn branch_size_of(func: &SlotFunction, point: u32, then_to: u32, else_to: u32) -> u32
+    requires { point < 2 ^ 32 - 1 }
+    ensures value { result ≡ items.branch_size func.now point then_to else_to }
+    ensures few { result ≤ 3 }
+{
+    if is_next(point, else_to) {
+        return way_size_of(func, point, then_to);
+    }
+    if is_next(point, then_to) {
+        return way_size_of(func, point, else_to);
+    }
+    3
 }
 
 // ---- calls and returns
@@ -166,6 +310,21 @@ pub fn print_size_of(homes: &SlotHomes<'_>, args: &[Printed]) -> u32
 
 // ---- speculation
 
+/// Whether one branch leads over so many words: it reaches 4 KiB.
+pub fn reaches_over(count: u32) -> bool
+    ensures { result ≡ items.reaches_over count }
+{
+    count < 1023
+}
+
+// How many words lead over so many.
+fn skip_size_of(count: u32) -> u32
+    ensures value { result ≡ items.skip_size count }
+    ensures few { result ≤ 2 }
+{
+    if reaches_over(count) { 1 } else { 2 }
+}
+
 /// How many words of the guard at a point come before its last.
 pub fn guard_front_size(
     homes: &SlotHomes<'_>,
@@ -179,5 +338,5 @@ pub fn guard_front_size(
     ensures { result ≡ items.guard_front_size (homes_in homes.now) func.now point condition label }
 {
     let back = SlotMoves::taken_back(homes, func, point, label).size(Transfer::Restore);
-    source_size_of(homes.variable(condition)) + 2 + back
+    source_size_of(homes.variable(condition)) + skip_size_of(1 + back) + back
 }

@@ -1,6 +1,7 @@
 -- From a step of the program and a stretch of the machine's words to related states again.
-use Rattle.std.proofs.Common.{◌≡◌, ℕ, suc, ◌+◌, ◌-◌, ◌<◌, ◌≤◌, ◌⊎◌, inr, refl, sym, ap, ◌∙◌, subst, arith, List, [], ◌∷◌, length, Option, Some, None, Bool}
+use Rattle.std.proofs.Common.{◌≡◌, ℕ, suc, ◌+◌, ◌-◌, ◌<◌, ◌≤◌, ◌⊎◌, inl, inr, refl, sym, ap, ◌∙◌, subst, arith, List, [], ◌∷◌, length, Option, Some, None, Bool, true, false, cond}
 use Rattle.std.specs.Prelude.{slice_get}
+use Rattle.std.proofs.lemmas.Option.{slice_get_within}
 use Rattle.simulation.specs.System.{after}
 use Rattle.simulation.proofs.After.{after-suc}
 use Rattle.bril_tree.specs.declared.home.Home.{Home}
@@ -11,9 +12,10 @@ use Rattle.bril_tree.specs.declared.value.Value.{Value}
 use Rattle.bril_tree.specs.Run.{first_state}
 use Rattle.bril_tree.specs.State as bril
 use Rattle.bril_tree.specs.Step.{step, at_point, advanced, faulted, with_locations}
+use Rattle.rv64_emit_laws.specs.layout.Items.{item_size, mark_size, mark_words, nop_word}
 use Rattle.rv64_words_laws.specs.stretches.Core.{Core, Keeps, KeepsBut, machine}
-use Rattle.rv64_words_laws.specs.stretches.Runs.{Runs, Leaves, Ends}
-use Rattle.rv64_words_laws.proofs.lemmas.stretches.Going.{Going}
+use Rattle.rv64_words_laws.specs.stretches.Runs.{HasAt, Runs, Leaves, Ends}
+use Rattle.rv64_words_laws.proofs.lemmas.stretches.Going.{Going, begin, plain}
 use Rattle.rv64_words_laws.specs.sequences.Moves.{Filled, result_register, result_size, result_words}
 use Rattle.rv64_words_laws.proofs.lemmas.sequences.Homes.{filled_after, result_goes}
 use Rattle.rv64_words_laws.proofs.lemmas.sequences.Sizes.{result_most}
@@ -25,13 +27,13 @@ use Rattle.slot_code.specs.Laws.{IsSlotOf}
 use Rattle.slot_code.specs.Meaning.{slot_items_of, slot_running_step, slot_frames_step, slot_point_step, fills, with_slot}
 use Rattle.slot_code.proofs.Steps.{steps_are}
 use Rattle.rv64_emit_laws.proofs.Acting.{Fills, Leads}
-use Rattle.rv64_emit_laws.proofs.Between.{AreInner, Comes, Stops, comes_away, comes_by, stops_by}
+use Rattle.rv64_emit_laws.proofs.Between.{AreInner, Comes, Stops, comes_away, comes_by, comes_in, stops_by}
 use Rattle.rv64_emit_laws.proofs.Entries.{IsBetween, item_inner}
 use Rattle.rv64_emit_laws.proofs.Holding.{filled_holds, home_inside, home_usable, keeps_homes, moved_holds, stack_few}
 use Rattle.rv64_emit_laws.proofs.Relation.{HasWord, FramesHold, MemoryHolds, GuardsHold, RunsAlike, EndedAlike, Related, run, over}
-use Rattle.rv64_emit_laws.proofs.Setting.{Setting, entry_of, sizes}
+use Rattle.rv64_emit_laws.proofs.Setting.{Setting, entry_of, next_entry, sizes}
 use Rattle.rv64_emit_laws.proofs.Standing.{standing}
-use Rattle.rv64_emit_laws.proofs.Stretches.{at_place, ends_in, in_steps, with_end}
+use Rattle.rv64_emit_laws.proofs.Stretches.{at_place, ends_in, in_steps, landed, with_end}
 
 module _ (S : Setting) where
   -- how many items follow the newest frame's point
@@ -48,9 +50,12 @@ module _ (S : Setting) where
 
   -- The program's step leads to related states: the machine makes some steps too, at most those of the cost, and comes to no item
   -- before the last one; or it makes none, and then the newest frame comes nearer to its end.
+  abbrev pub MovesAlone : bril.State → State → Type 0
+  MovesAlone s t = (distance (step S.p S.limits s) < distance s) × Related S (step S.p S.limits s) t
+
   abbrev pub Moves : bril.State → State → Type 0
   Moves s t =
-      ((distance (step S.p S.limits s) < distance s) × Related S (step S.p S.limits s) t)
+      MovesAlone s t
       ⊎ ((m : ℕ) × (suc m ≤ S.cost) × Related S (step S.p S.limits s) (after (machine_step S.image (sizes S)) (suc m) t) × NoneBetween m t)
 
   pub memory_by : (blocks : List bril.Block) (c e : Core) → e.table ≡ c.table → e.cells ≡ c.cells → e.blocks ≡ c.blocks → e.next_free ≡ c.next_free → MemoryHolds (sizes S) blocks c.table c.cells c.blocks c.next_free → MemoryHolds (sizes S) blocks e.table e.cells e.blocks e.next_free
@@ -124,6 +129,84 @@ module _ (S : Setting) where
         let last : EndedAlike S u stop = record { how = how; ended = ended; stopped = refl; guards = guards; printed = printed } in
         let steps : after (machine_step S.image (sizes S)) (suc n) t ≡ stop = ap (after (machine_step S.image (sizes S)) (suc n)) r.state ∙ ends.steps r.done in
         inr (n, cheap, subst (λ x. Related S x (after (machine_step S.image (sizes S)) (suc n) t)) (sym stepped) (subst (Related S u) (sym steps) (over last)), none_between n (λ i some le. ends.between r.done i some (omega arith)))
+
+    -- ---- items for which nothing is to be done
+
+    -- The newest frame's item leads to its next point, and changes nothing that the machine has.
+    pub record Idles : Type 0 where
+      pub after : bril.State
+      pub newest : bril.Frame
+      pub stepped : step S.p S.limits s ≡ after
+      pub frames : after.frames ≡ newest ∷ r.older
+      pub function : newest.function ≡ r.frame.function
+      pub point : newest.point ≡ suc r.frame.point
+      pub running : after.ended ≡ None
+      pub printed : after.printed ≡ r.core.printed
+      pub holds : FramesHold S (length after.blocks) newest r.older r.core
+      pub memory : MemoryHolds (sizes S) after.blocks r.core.table r.core.cells r.core.blocks r.core.next_free
+      pub guards : GuardsHold S.image.guards after.failures r.core.arrivals
+
+    -- where the next item begins is where the newest frame is then
+    idle_entry : (d : Idles) → entry_of S r.frame.function (suc r.frame.point) ≡ entry_of S d.newest.function d.newest.point
+    idle_entry d = sym (ap (λ k. entry_of S k d.newest.point) d.function ∙ ap (entry_of S r.frame.function) d.point)
+
+    -- an item without words: the program moves alone
+    pub idle_alone : Idles → (item : SlotItem) → slice_get r.holds.function.code r.frame.point ≡ Some item → item_size (S.homes r.frame.function) r.holds.function r.frame.point item ≡ 0 → MovesAlone s t
+    idle_alone d item at none = (nearer, subst (λ x. Related S x t) (sym d.stepped) (run next))
+      where
+        same_entry : here ≡ entry_of S d.newest.function d.newest.point
+        same_entry =
+            let there = next_entry S r.frame.function r.holds.function r.frame.point item r.holds.there at in
+            let stays : here ≡ entry_of S r.frame.function (suc r.frame.point) = omega arith in
+            stays ∙ idle_entry d
+
+        less : (a b n k : ℕ) → k < n → a ≡ n - suc k → b ≡ n - k → a < b
+        less a b n k lt e d = omega arith
+
+        left : distance (step S.p S.limits s) ≡ length (slot_items_of (slice_get S.slots.funcs r.frame.function)) - suc r.frame.point
+        left =
+            ap distance d.stepped
+            ∙ (ap left_in d.frames
+            ∙ (ap (λ k. length (slot_items_of (slice_get S.slots.funcs k)) - d.newest.point) d.function
+            ∙ ap (λ k. length (slot_items_of (slice_get S.slots.funcs r.frame.function)) - k) d.point))
+
+        nearer : distance (step S.p S.limits s) < distance s
+        nearer =
+            let long : length (slot_items_of (slice_get S.slots.funcs r.frame.function)) ≡ length r.holds.function.code = ap (λ o. length (slot_items_of o)) r.holds.there in
+            let lt = slice_get_within r.holds.function.code r.frame.point item at in
+            less _ _ (length (slot_items_of (slice_get S.slots.funcs r.frame.function))) r.frame.point (omega arith) left (ap left_in r.frames)
+
+        next : RunsAlike S d.after t
+        next = record {
+          steps = suc r.steps;
+          is = sym d.stepped ∙ (ap (step S.p S.limits) r.is ∙ sym (after-suc (step S.p S.limits) r.steps (first_state S.p S.limits S.args)));
+          frame = d.newest;
+          older = r.older;
+          frames = d.frames;
+          running = d.running;
+          core = r.core;
+          done = r.done;
+          state = r.state ∙ ap (λ k. machine k r.core r.done) same_entry;
+          holds = d.holds;
+          memory = d.memory;
+          guards = d.guards;
+          printed = d.printed;
+        }
+
+    -- one whose words are those that mark it
+    pub idle_moves : Idles → (item : SlotItem) → slice_get r.holds.function.code r.frame.point ≡ Some item → HasAt S.image here (mark_words (S.homes r.frame.function)) →
+        item_size (S.homes r.frame.function) r.holds.function r.frame.point item ≡ mark_size (S.homes r.frame.function) → 1 ≤ S.cost → Moves s t
+    idle_moves d item at has size cheap = by (S.homes r.frame.function).marked refl has
+      where
+        by : (marked : Bool) → (S.homes r.frame.function).marked ≡ marked → HasAt S.image here (cond marked (nop_word ∷ []) []) → Moves s t
+        by false m words = inl (idle_alone d item at (size ∙ ap (λ b. cond b 1 0) m))
+        by true m words =
+            let there = next_entry S r.frame.function r.holds.function r.frame.point item r.holds.there at in
+            let one : mark_size (S.homes r.frame.function) ≡ 1 = ap (λ b. cond b 1 0) m in
+            let behind : here + 1 ≡ entry_of S r.frame.function (suc r.frame.point) = omega arith in
+            let g = plain S.image (sizes S) tt (begin S.image (sizes S) here r.core (nop_word ∷ []) words) in
+            arrive d.after d.newest r.older r.core 0 d.stepped d.frames d.running d.printed d.holds d.memory d.guards
+            (comes_in S 1 (entry_of S d.newest.function d.newest.point) refl (idle_entry d) (onto_next (landed 1 (entry_of S r.frame.function (suc r.frame.point)) refl behind g))) (omega arith)
 
     pub guards_by : (e : Core) → e.arrivals ≡ r.core.arrivals → GuardsHold S.image.guards s.failures e.arrivals
     guards_by e same k guard there = ap (λ m. m guard.word) same ∙ r.guards k guard there

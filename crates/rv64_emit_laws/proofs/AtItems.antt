@@ -11,14 +11,13 @@ use Rattle.rv64_emit_laws.proofs.lemmas.layout.Joining.{below_or}
 use Rattle.rv64_words.specs.Machine.{machine_step}
 use Rattle.rv64_words.specs.State.{Finished, start}
 use Rattle.slot_code.specs.declared.item.SlotItem.{SlotItem}
-use Rattle.slot_code.specs.declared.item.SlotItem.TheVariants.{Pass}
 use Rattle.slot_code.specs.declared.slots.SlotFunction.{SlotFunction}
 use Rattle.rv64_emit_laws.proofs.Arriving.{distance}
-use Rattle.rv64_emit_laws.proofs.HavingWords.{words_or_pass}
 use Rattle.rv64_emit_laws.proofs.Entries.{HasWords, head_inner, inner_between, leaving_inner, one_entry}
 use Rattle.rv64_emit_laws.proofs.Relation.{Related, RunsAlike, run, over}
 use Rattle.rv64_emit_laws.proofs.Setting.{Setting, entry_of, sizes}
 use Rattle.rv64_emit_laws.proofs.Starting.{start_between, start_steps}
+use Rattle.rv64_emit_laws.proofs.Stretches.{none_or_some}
 use Rattle.rv64_image_laws.specs.Stands.{StandsAt}
 use Rattle.rv64_emit_laws.proofs.Counting.{Alone, Rests, Together, Way, count, first_count, machine_after, program_after, related_at, way}
 
@@ -40,8 +39,12 @@ module _ (S : Setting) (m f point : ℕ) (g : SlotFunction) (item : SlotItem) (h
   abbrev From : ℕ → Type 0
   From n = count S n ≤ m → Found
 
-  -- the machine is there: the newest frame's item is that one, or a label or a `nop` before it
-  here_found : (n : ℕ) → count S n ≡ m → (r : RunsAlike S (program_after S n) (machine_after S (count S n))) → (slice_get r.holds.function.code r.frame.point ≡ Some Pass → Found) → Found
+  -- the newest frame's item has no words
+  abbrev IsEmptyHere : (n : ℕ) → RunsAlike S (program_after S n) (machine_after S (count S n)) → Type 0
+  IsEmptyHere n r = (own : SlotItem) × (slice_get r.holds.function.code r.frame.point ≡ Some own) × (item_size (S.homes r.frame.function) r.holds.function r.frame.point own ≡ 0)
+
+  -- the machine is there: the newest frame's item is that one, or one without words before it
+  here_found : (n : ℕ) → count S n ≡ m → (r : RunsAlike S (program_after S n) (machine_after S (count S n))) → (IsEmptyHere n r → Found) → Found
   here_found n there r again = by (slice_get r.holds.function.code r.frame.point) refl
     where
       same : entry_of S r.frame.function r.frame.point ≡ entry_of S f point
@@ -50,7 +53,7 @@ module _ (S : Setting) (m f point : ℕ) (g : SlotFunction) (item : SlotItem) (h
       by : (o : Option SlotItem) → slice_get r.holds.function.code r.frame.point ≡ o → Found
       by None e = absurd (leaving_inner S r.frame.function r.holds.function r.holds.there r.frame.point (entry_of S r.frame.function r.frame.point) e (omega arith) (omega arith) f point g item has same)
       by (Some own) e = ⊎_elim
-          (λ (pass : own ≡ Pass). again (e ∙ ap Some pass))
+          (λ (none : item_size (S.homes r.frame.function) r.holds.function r.frame.point own ≡ 0). again (own, e, none))
           (λ (some : 1 ≤ item_size (S.homes r.frame.function) r.holds.function r.frame.point own). (
           let one = one_entry S r.frame.function r.frame.point f point r.holds.function g own item (record { there = r.holds.there; here = e; some = some }) has same in
           record {
@@ -58,7 +61,7 @@ module _ (S : Setting) (m f point : ℕ) (g : SlotFunction) (item : SlotItem) (h
             there = there;
             stands = record { frame = r.frame; older = r.older; frames = r.frames; running = r.running; in_function = one.0; at_item = one.1 };
           }))
-          (words_or_pass (S.homes r.frame.function) r.holds.function r.frame.point own)
+          (none_or_some (item_size (S.homes r.frame.function) r.holds.function r.frame.point own))
 
   -- one step of the program; then the newest frame is nearer to its end, or the machine nearer to that item
   one_more : (fuel far : ℕ) → ((n : ℕ) → m - count S n < fuel → From n) → ((n : ℕ) → m - count S n < suc fuel → distance S (program_after S n) < far → From n) →
@@ -77,16 +80,19 @@ module _ (S : Setting) (m f point : ℕ) (g : SlotFunction) (item : SlotItem) (h
       on : count S n < m → (program_after S n).ended ≡ None → Way S n (count S n) (count S (suc n)) → Found
       on less runs (Rests final same) = absurd (running-not_final (program_after S n).ended runs final)
       on less runs (Alone nearer same) = alone nearer same
-      on less runs (Together i cheap same none no_pass) = by (below_or m (count S (suc n)))
+      on less runs (Together i cheap same none full) = by (below_or m (count S (suc n)))
         where
           by : (m < count S (suc n)) ⊎ (count S (suc n) ≤ m) → Found
           by (inl long) = absurd (between i less (omega arith) (λ j some most there. none j some most f point g item has there))
           by (inr short) = next (suc n) (omega arith) short
 
-      here : (r : RunsAlike S (program_after S n) (machine_after S (count S n))) → slice_get r.holds.function.code r.frame.point ≡ Some Pass → Way S n (count S n) (count S (suc n)) → Found
-      here r pass (Rests final same) = absurd (running-not_final (program_after S n).ended r.running final)
-      here r pass (Alone nearer same) = alone nearer same
-      here r pass (Together i cheap same none no_pass) = absurd (no_pass r.frame r.older r.holds.function r.frames r.holds.there pass)
+      here : (r : RunsAlike S (program_after S n) (machine_after S (count S n))) → IsEmptyHere n r → Way S n (count S n) (count S (suc n)) → Found
+      here r empty (Rests final same) = absurd (running-not_final (program_after S n).ended r.running final)
+      here r empty (Alone nearer same) = alone nearer same
+      here r empty (Together i cheap same none full) =
+          let some = full r.frame r.older r.holds.function empty.0 r.frames r.holds.there empty.1 in
+          let zero_words = empty.2 in
+          absurd (omega arith)
 
       by_relation : Related S (program_after S n) (machine_after S (count S n)) → Found
       by_relation (over r) = absurd (no_end (count S n) r.how le r.stopped)
@@ -94,7 +100,7 @@ module _ (S : Setting) (m f point : ℕ) (g : SlotFunction) (item : SlotItem) (h
         where
           by_place : (count S n < m) ⊎ (m ≤ count S n) → Found
           by_place (inl less) = on less r.running (way S n)
-          by_place (inr past) = here_found n (omega arith) r (λ pass. here r pass (way S n))
+          by_place (inr past) = here_found n (omega arith) r (λ empty. here r empty (way S n))
 
   near_from : (fuel : ℕ) → ((n : ℕ) → m - count S n < fuel → From n) → (far n : ℕ) → m - count S n < suc fuel → distance S (program_after S n) < far → From n
   near_from fuel next zero n near low = absurd (omega arith)

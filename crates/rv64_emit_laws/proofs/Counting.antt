@@ -1,5 +1,5 @@
 -- How many words the machine has executed at each step of the program, and what lies between two steps.
-use Rattle.std.proofs.Common.{◌≡◌, ℕ, zero, suc, ◌+◌, ◌<◌, ◌≤◌, ◌⊎◌, inl, inr, ⊎_elim, List, ◌∷◌, Option, Some, None, refl, sym, ap, ◌∙◌, subst, arith}
+use Rattle.std.proofs.Common.{◌≡◌, ℕ, zero, suc, ◌+◌, ◌<◌, ◌≤◌, ◌⊎◌, inl, inr, ⊎_elim, List, ◌∷◌, Option, Some, None, refl, sym, ap, ◌∙◌, subst}
 use Rattle.std.specs.Prelude.{slice_get}
 use Rattle.simulation.specs.System.{after, IsFinal}
 use Rattle.simulation.proofs.After.{after-add, after-suc, final_or_running}
@@ -12,15 +12,13 @@ use Rattle.rv64_emit_laws.specs.layout.Items.{item_size}
 use Rattle.rv64_words.specs.Machine.{machine_step}
 use Rattle.rv64_words.specs.State.{State, start}
 use Rattle.slot_code.specs.declared.item.SlotItem.{SlotItem}
-use Rattle.slot_code.specs.declared.item.SlotItem.TheVariants.{Pass}
 use Rattle.slot_code.specs.declared.slots.SlotFunction.{SlotFunction}
 use Rattle.rv64_emit_laws.proofs.Arriving.{NoneBetween, distance}
-use Rattle.rv64_emit_laws.proofs.HavingWords.{words_or_pass}
-use Rattle.rv64_emit_laws.proofs.Items.{related_moves}
-use Rattle.rv64_emit_laws.proofs.Jumping.{pass_alone}
+use Rattle.rv64_emit_laws.proofs.Items.{empty_alone, related_moves}
 use Rattle.rv64_emit_laws.proofs.Relation.{Related, RunsAlike, run, over}
 use Rattle.rv64_emit_laws.proofs.Setting.{Setting, sizes}
 use Rattle.rv64_emit_laws.proofs.Starting.{start_related, start_steps}
+use Rattle.rv64_emit_laws.proofs.Stretches.{none_or_some}
 
 module _ (S : Setting) where
   abbrev pub program_after : ℕ → bril.State
@@ -32,8 +30,8 @@ module _ (S : Setting) where
   -- ---- one step
 
   -- the newest frame isn't at an item without words
-  abbrev pub IsNoPass : bril.State → Type 0
-  IsNoPass s = (f : bril.Frame) (older : List bril.Frame) (g : SlotFunction) → s.frames ≡ f ∷ older → slice_get S.slots.funcs f.function ≡ Some g → slice_get g.code f.point ≡ Some Pass → ⊥
+  abbrev pub IsFull : bril.State → Type 0
+  IsFull s = (f : bril.Frame) (older : List bril.Frame) (g : SlotFunction) (item : SlotItem) → s.frames ≡ f ∷ older → slice_get S.slots.funcs f.function ≡ Some g → slice_get g.code f.point ≡ Some item → 1 ≤ item_size (S.homes f.function) g f.point item
 
   -- the machine's state beside the n-th one of the program
   pub record Beside (n : ℕ) : Type 0 where
@@ -45,7 +43,7 @@ module _ (S : Setting) where
   pub data Way (n k j : ℕ) : Type 0 where
     Rests : IsFinal (program_after n).ended → j ≡ k → Way n k j
     Alone : distance S (program_after (suc n)) < distance S (program_after n) → j ≡ k → Way n k j
-    Together : (i : ℕ) → suc i ≤ S.cost → j ≡ k + suc i → NoneBetween S i (machine_after k) → IsNoPass (program_after n) → Way n k j
+    Together : (i : ℕ) → suc i ≤ S.cost → j ≡ k + suc i → NoneBetween S i (machine_after k) → IsFull (program_after n) → Way n k j
 
   pub record Next (n k : ℕ) : Type 0 where
     pub beside : Beside (suc n)
@@ -72,19 +70,19 @@ module _ (S : Setting) where
         way = Alone (let less = moved.0 in subst (λ x. distance S x < distance S (program_after n)) (sym (next_state n)) less) refl;
       }
 
-      together : (i : ℕ) → suc i ≤ S.cost → Related S (step S.p S.limits (program_after n)) (after (machine_step S.image (sizes S)) (suc i) (machine_after b.count)) → NoneBetween S i (machine_after b.count) → IsNoPass (program_after n) → Next n b.count
-      together i cheap related none no_pass = record {
+      together : (i : ℕ) → suc i ≤ S.cost → Related S (step S.p S.limits (program_after n)) (after (machine_step S.image (sizes S)) (suc i) (machine_after b.count)) → NoneBetween S i (machine_after b.count) → IsFull (program_after n) → Next n b.count
+      together i cheap related none full = record {
         beside = record {
           count = b.count + suc i;
           related =
               subst (λ x. Related S x (machine_after (b.count + suc i))) (sym (next_state n))
               (subst (Related S (step S.p S.limits (program_after n))) (sym (after-add (machine_step S.image (sizes S)) b.count (suc i) (start S.args))) related);
         };
-        way = Together i cheap refl none no_pass;
+        way = Together i cheap refl none full;
       }
 
-      moves : IsNoPass (program_after n) → (program_after n).ended ≡ None → Next n b.count
-      moves no_pass running = ⊎_elim (λ moved. alone moved) (λ moved. together moved.0 moved.1 moved.2 moved.3 no_pass) (related_moves S (program_after n) (machine_after b.count) b.related running)
+      moves : IsFull (program_after n) → (program_after n).ended ≡ None → Next n b.count
+      moves full running = ⊎_elim (λ moved. alone moved) (λ moved. together moved.0 moved.1 moved.2 moved.3 full) (related_moves S (program_after n) (machine_after b.count) b.related running)
 
       same_frame : (f g : bril.Frame) (fs gs : List bril.Frame) → f ∷ fs ≡ g ∷ gs → f ≡ g
       same_frame f g fs gs e = cc
@@ -92,30 +90,24 @@ module _ (S : Setting) where
       by_item : (r : RunsAlike S (program_after n) (machine_after b.count)) (o : Option SlotItem) → slice_get r.holds.function.code r.frame.point ≡ o → Next n b.count
       by_item r o e = by o e
         where
-          others : (slice_get r.holds.function.code r.frame.point ≡ Some Pass → ⊥) → IsNoPass (program_after n)
-          others isnt f older g frames there here =
+          same_some : {X : Type 0} {o : Option X} {x y : X} → o ≡ Some x → o ≡ Some y → x ≡ y
+          same_some a b = cc
+
+          others : ((item : SlotItem) → slice_get r.holds.function.code r.frame.point ≡ Some item → 1 ≤ item_size (S.homes r.frame.function) r.holds.function r.frame.point item) → IsFull (program_after n)
+          others some f older g item frames there here =
               let same : r.frame ≡ f = same_frame r.frame f r.older older (sym r.frames ∙ frames) in
               let its : slice_get S.slots.funcs r.frame.function ≡ Some g = subst (λ x. slice_get S.slots.funcs x.function ≡ Some g) (sym same) there in
-              let own : r.holds.function ≡ g = some_one r.holds.there its in
-              isnt (ap (λ x. slice_get x.code r.frame.point) own ∙ (ap (λ x. slice_get g.code x.point) same ∙ here))
-            where
-              some_one : {X : Type 0} {o : Option X} {x y : X} → o ≡ Some x → o ≡ Some y → x ≡ y
-              some_one a b = cc
+              let own : r.holds.function ≡ g = same_some r.holds.there its in
+              subst (λ x. 1 ≤ item_size (S.homes x.function) g x.point item) same
+              (subst (λ h. 1 ≤ item_size (S.homes r.frame.function) h r.frame.point item) own (some item (ap (λ x. slice_get x.code r.frame.point) own ∙ (ap (λ x. slice_get g.code x.point) same ∙ here))))
 
           by : (o : Option SlotItem) → slice_get r.holds.function.code r.frame.point ≡ o → Next n b.count
-          by None e = moves (others (λ pass. (let clash : None ≡ Some Pass = sym e ∙ pass in cc))) r.running
+          by None e = moves (others (λ item is. absurd (let clash : None ≡ Some item = sym e ∙ is in cc))) r.running
           by (Some item) e = ⊎_elim
-              (λ (pass : item ≡ Pass). alone (pass_alone S (program_after n) (machine_after b.count) r (e ∙ ap Some pass)))
-              (λ (some : 1 ≤ item_size (S.homes r.frame.function) r.holds.function r.frame.point item). moves (others (λ pass. full item some (some_one (sym e ∙ pass)))) r.running)
-              (words_or_pass (S.homes r.frame.function) r.holds.function r.frame.point item)
-            where
-              some_one : {x y : SlotItem} → Some x ≡ Some y → x ≡ y
-              some_one a = cc
-
-              full : (item : SlotItem) → 1 ≤ item_size (S.homes r.frame.function) r.holds.function r.frame.point item → item ≡ Pass → ⊥
-              full item some is =
-                  let none : 1 ≤ item_size (S.homes r.frame.function) r.holds.function r.frame.point Pass = subst (λ x. 1 ≤ item_size (S.homes r.frame.function) r.holds.function r.frame.point x) is some in
-                  absurd (omega arith)
+              (λ (none : item_size (S.homes r.frame.function) r.holds.function r.frame.point item ≡ 0). alone (empty_alone S (program_after n) (machine_after b.count) r item e none))
+              (λ (some : 1 ≤ item_size (S.homes r.frame.function) r.holds.function r.frame.point item).
+              moves (others (λ own is. subst (λ x. 1 ≤ item_size (S.homes r.frame.function) r.holds.function r.frame.point x) (same_some e is) some)) r.running)
+              (none_or_some (item_size (S.homes r.frame.function) r.holds.function r.frame.point item))
 
       by_relation : Related S (program_after n) (machine_after b.count) → (program_after n).ended ≡ None → Next n b.count
       by_relation (run r) running = by_item r (slice_get r.holds.function.code r.frame.point) refl

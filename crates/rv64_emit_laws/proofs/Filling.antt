@@ -1,7 +1,9 @@
 -- The items that give a slot a value: constants, copies, and the operations that compute.
-use Rattle.std.proofs.Common.{◌≡◌, ◌≢◌, ℕ, suc, ◌+◌, ◌<◌, ◌≤◌, Bool, true, refl, sym, ap, ◌∙◌, subst, arith, List, ◌++◌, length, None, Some, pos, inl, inr}
+use Rattle.std.proofs.Common.{◌≡◌, ◌≢◌, ℕ, suc, ◌+◌, ◌<◌, ◌≤◌, Bool, true, false, cond, refl, sym, ap, ◌∙◌, subst, arith, List, ◌++◌, length, None, Some, pos, inl, inr}
 use Rattle.std.specs.Prelude.{slice_get}
+use Rattle.std.proofs.lemmas.Bool.{eqb-true, false≢true}
 use Rattle.bril_tree.specs.declared.home.Home.{Home}
+use Rattle.bril_tree.specs.declared.home.Home.TheVariants.{Reg, Frame}
 use Rattle.bril_tree.specs.declared.limits.End.TheVariants.{Faulted}
 use Rattle.bril_tree.specs.declared.limits.Fault.{Fault}
 use Rattle.bril_tree.specs.declared.operators.BinaryOp.{BinaryOp}
@@ -12,8 +14,9 @@ use Rattle.bril_tree.specs.declared.value.Value.TheVariants.{Int, Char}
 use Rattle.bril_tree.specs.Operators.{binary_operation, unary_operation}
 use Rattle.bril_tree.specs.Outcome.{Outcome, Yields, FaultsWith, HasEffect, computed, block_of}
 use Rattle.bril_tree.specs.State as bril
-use Rattle.bril_tree.specs.Step.{step}
+use Rattle.bril_tree.specs.Step.{step, advanced, with_locations}
 use Rattle.bril_tree.specs.Value.{IsInRange, word_of}
+use Rattle.rv64_emit_laws.specs.layout.Items.{copied_size, copied_words, item_size, mark_size, mark_words, same_home}
 use Rattle.rv64_emit_laws.proofs.lemmas.layout.Bounding.{constant_most}
 use Rattle.rv64_emit_laws.proofs.lemmas.layout.Lengths.{binary_length, unary_length}
 use Rattle.rv64_emit_laws.proofs.lemmas.layout.ItemWords.{word_small}
@@ -22,7 +25,7 @@ use Rattle.rv64_words_laws.specs.stretches.Runs.{HasAt, Runs}
 use Rattle.rv64_words_laws.proofs.lemmas.stretches.Cores.{written_here}
 use Rattle.rv64_words_laws.proofs.lemmas.stretches.Going.{Going, across, begin, has_front}
 use Rattle.rv64_words_laws.proofs.lemmas.stretches.Steps.{ends_after}
-use Rattle.rv64_words_laws.specs.sequences.Moves.{copy_size, copy_words, home_word, operand_register, operand_size, operand_words, register_for, result_register, result_size, result_words, target_words}
+use Rattle.rv64_words_laws.specs.sequences.Moves.{Filled, copy_size, copy_words, home_word, operand_register, operand_size, operand_words, register_for, result_register, result_size, result_words, target_words}
 use Rattle.rv64_words_laws.specs.sequences.Operations.{binary_size, binary_takes_any, binary_words, unary_size, unary_takes_any, unary_words}
 use Rattle.rv64_words_laws.specs.sequences.Sequences.{constant_size, constant_words}
 use Rattle.rv64_words_laws.proofs.lemmas.sequences.Constants.{constant}
@@ -37,18 +40,20 @@ use Rattle.rv64_words.specs.declared.word.Word.{Word}
 use Rattle.rv64_words.specs.State.{State}
 use Rattle.slot_code.specs.declared.item.Slot.{Slot}
 use Rattle.slot_code.specs.declared.item.Slot.TheVariants.{Variable}
+use Rattle.slot_code.specs.declared.item.SlotItem.{SlotItem}
 use Rattle.slot_code.specs.declared.item.SlotItem.TheVariants.{Constant, Copy, Unary, Binary}
 use Rattle.slot_code.specs.Laws.{IsSlotOf}
-use Rattle.slot_code.specs.Meaning.{computes, fills, read_slot}
+use Rattle.slot_code.specs.Meaning.{computes, fills, read_slot, with_slot}
 use Rattle.rv64_emit_laws.proofs.Acting.{Fills, fills_slot}
-use Rattle.rv64_emit_laws.proofs.Arriving.{Moves, faults_moves, filled_moves, here, home_here, results_moves, step_at}
-use Rattle.rv64_emit_laws.proofs.Holding.{home_inside, home_usable, keeps_homes, stack_few}
+use Rattle.rv64_emit_laws.proofs.Arriving.{Idles, Moves, MovesAlone, faults_moves, filled_moves, here, home_here, idle_alone, idle_moves, results_moves, step_at}
+use Rattle.rv64_emit_laws.proofs.Holding.{filled_holds, home_inside, home_usable, keeps_homes, stack_few}
 use Rattle.rv64_emit_laws.proofs.Operands.{Holds, brings, holds_slot, read_is, unchanged, word_held}
 use Rattle.rv64_emit_laws.proofs.Outcomes.{binary_block, binary_computes, binary_most, binary_operands, binary_some, unary_block, unary_computes, unary_most, unary_operand}
 use Rattle.rv64_emit_laws.proofs.Ready.{BinaryFinds, HoldsValue, UnaryFinds}
 use Rattle.rv64_emit_laws.proofs.Registers.{binary_takes, but_on, first_stays, takes_result}
 use Rattle.rv64_emit_laws.proofs.Relation.{HasWord, RunsAlike}
 use Rattle.rv64_emit_laws.proofs.Setting.{Setting, entry_of, its_words, next_entry, sizes}
+use Rattle.rv64_emit_laws.proofs.Standing.{standing}
 use Rattle.rv64_emit_laws.proofs.Stretches.{at_place, constant_some, copy_some, ends_some, runs_some, with_end}
 
 module _ (S : Setting) (s : bril.State) (t : State) (r : RunsAlike S s t) (dear : 128 ≤ S.cost) where
@@ -95,13 +100,87 @@ module _ (S : Setting) (s : bril.State) (t : State) (r : RunsAlike S s t) (dear 
       filled_moves S s t r dest u (home_word r.core h.base of) q.0 (0 + copy_size to of) in_dest fl (record { is = word.is ∙ sym same_word; known = omega arith }) q.1 stepped
       (at_place (entry_of S r.frame.function (suc r.frame.point)) there q.2.runs) (omega arith) (omega arith)
 
-  pub copy_moves : (dest from : Slot) → slice_get r.holds.function.code r.frame.point ≡ Some (Copy dest from) → HoldsValue r.frame.locations from → IsSlotOf r.holds.function dest → IsSlotOf r.holds.function from → Moves S s t
-  copy_moves dest from item held in_dest in_from =
-      let h = r.holds in
-      let there = next_entry S r.frame.function h.function r.frame.point (Copy dest from) h.there item in
-      let is = step_at S s t r (Some (Copy dest from)) item ∙ ap (λ v. fills S.p S.slots S.limits dest v r.frame r.older s) (read_is r.frame.locations from held.value held.is) in
-      copied_moves dest from held.value held.value (holds_slot S s t r (Copy dest from) item from held.value (inl refl) in_from held.is) refl (omega arith) in_dest
-      (fills_slot S r.frame h.function h.there (Copy dest from) item dest (inl refl) refl) is (its_words S r.frame.function h.function r.frame.point (Copy dest from) h.there item) (sym there)
+  -- homes that a test finds to be one are one
+  one_home : (a b : Home) → same_home a b ≡ true → a ≡ b
+  one_home (Reg a) (Reg b) h = ap Reg (eqb-true a b h)
+  one_home (Frame a) (Frame b) h = ap Frame (eqb-true a b h)
+  one_home (Reg a) (Frame b) h = absurd (false≢true h)
+  one_home (Frame a) (Reg b) h = absurd (false≢true h)
+
+  -- the two slots are at one home
+  copied_idles : (dest from : Slot) (v u : Value) → Holds S s t r from v → word_of u ≡ word_of v → block_of u ≤ block_of v → IsSlotOf r.holds.function dest → Fills S r.frame dest → step S.p S.limits s ≡ fills S.p S.slots S.limits dest u r.frame r.older s →
+      home_here S s t r dest ≡ home_here S s t r from → Idles S s t r
+  copied_idles dest from v u held same_word same_block in_dest fl stepped one =
+      let word = word_held S s t r r.core from v (unchanged S s t r) held in
+      let known = word.known in
+      record {
+        after = fills S.p S.slots S.limits dest u r.frame r.older s;
+        newest = advanced (with_locations (with_slot dest u r.frame.locations) r.frame);
+        stepped = stepped;
+        frames = refl;
+        function = refl;
+        point = refl;
+        running = r.running;
+        printed = r.printed;
+        holds =
+            filled_holds S (length s.blocks) r.frame r.older r.core r.holds (standing S s t r) dest fl u (home_word r.core r.holds.base (home_here S s t r from)) r.core in_dest (record { is = word.is ∙ sym same_word; known = omega arith })
+            (filled_already r.holds.base (home_here S s t r dest) (home_here S s t r from) r.core one);
+        memory = r.memory;
+        guards = r.guards;
+      }
+    where
+      filled_already : (b : ℕ) (to of : Home) (c : Core) → to ≡ of → Filled b to (home_word c b of) c c
+      filled_already b to of c same = record {
+        rest = record { zero_register = refl; frame_register = refl; frames_left = refl; table = refl; cells = refl; blocks = refl; next_free = refl; printed = refl; arrivals = refl };
+        got = ap (home_word c b) same;
+        others = λ h usable other. refl;
+        stack = λ k apart. refl;
+      }
+
+  -- An item that copies, with what it does in the program.
+  module _ (item : SlotItem) (at : slice_get r.holds.function.code r.frame.point ≡ Some item) (dest from : Slot) (v u : Value) (held : Holds S s t r from v) (same_word : word_of u ≡ word_of v) (same_block : block_of u ≤ block_of v) (in_dest : IsSlotOf r.holds.function dest)
+      (fl : Fills S r.frame dest) (stepped : step S.p S.limits s ≡ fills S.p S.slots S.limits dest u r.frame r.older s)
+      (size : item_size (S.homes r.frame.function) r.holds.function r.frame.point item ≡ copied_size (S.homes r.frame.function) (home_here S s t r dest) (home_here S s t r from)) where
+    copies : HasAt S.image (here S s t r) (copied_words (S.homes r.frame.function) (home_here S s t r dest) (home_here S s t r from)) → Moves S s t
+    copies has = by (same_home (home_here S s t r dest) (home_here S s t r from)) refl has
+      where
+        by : (one : Bool) → same_home (home_here S s t r dest) (home_here S s t r from) ≡ one →
+            HasAt S.image (here S s t r) (cond one (mark_words (S.homes r.frame.function)) (copy_words (home_here S s t r dest) (home_here S s t r from))) → Moves S s t
+        by true h words =
+            idle_moves S s t r (copied_idles dest from v u held same_word same_block in_dest fl stepped (one_home (home_here S s t r dest) (home_here S s t r from) h)) item at words
+            (size ∙ ap (λ b. cond b (mark_size (S.homes r.frame.function)) (copy_size (home_here S s t r dest) (home_here S s t r from))) h) (omega arith)
+        by false h words =
+            let there = next_entry S r.frame.function r.holds.function r.frame.point item r.holds.there at in
+            let its : item_size (S.homes r.frame.function) r.holds.function r.frame.point item ≡ copy_size (home_here S s t r dest) (home_here S s t r from) =
+            size ∙ ap (λ b. cond b (mark_size (S.homes r.frame.function)) (copy_size (home_here S s t r dest) (home_here S s t r from))) h in
+            copied_moves dest from v u held same_word same_block in_dest fl stepped words (omega arith)
+
+    copies_alone : item_size (S.homes r.frame.function) r.holds.function r.frame.point item ≡ 0 → MovesAlone S s t
+    copies_alone none = by (same_home (home_here S s t r dest) (home_here S s t r from)) refl
+      where
+        by : (one : Bool) → same_home (home_here S s t r dest) (home_here S s t r from) ≡ one → MovesAlone S s t
+        by true h = idle_alone S s t r (copied_idles dest from v u held same_word same_block in_dest fl stepped (one_home (home_here S s t r dest) (home_here S s t r from) h)) item at none
+        by false h =
+            let its : item_size (S.homes r.frame.function) r.holds.function r.frame.point item ≡ copy_size (home_here S s t r dest) (home_here S s t r from) =
+            size ∙ ap (λ b. cond b (mark_size (S.homes r.frame.function)) (copy_size (home_here S s t r dest) (home_here S s t r from))) h in
+            let some = copy_some (home_here S s t r dest) (home_here S s t r from) in
+            absurd (omega arith)
+
+  module _ (dest from : Slot) (item : slice_get r.holds.function.code r.frame.point ≡ Some (Copy dest from)) (held : HoldsValue r.frame.locations from) (in_dest : IsSlotOf r.holds.function dest) (in_from : IsSlotOf r.holds.function from) where
+    copy_held : Holds S s t r from held.value
+    copy_held = holds_slot S s t r (Copy dest from) item from held.value (inl refl) in_from held.is
+
+    copy_fills : Fills S r.frame dest
+    copy_fills = fills_slot S r.frame r.holds.function r.holds.there (Copy dest from) item dest (inl refl) refl
+
+    copy_step : step S.p S.limits s ≡ fills S.p S.slots S.limits dest held.value r.frame r.older s
+    copy_step = step_at S s t r (Some (Copy dest from)) item ∙ ap (λ v. fills S.p S.slots S.limits dest v r.frame r.older s) (read_is r.frame.locations from held.value held.is)
+
+    pub copy_moves : Moves S s t
+    copy_moves = copies (Copy dest from) item dest from held.value held.value copy_held refl (omega arith) in_dest copy_fills copy_step refl (its_words S r.frame.function r.holds.function r.frame.point (Copy dest from) r.holds.there item)
+
+    pub copy_alone : copied_size (S.homes r.frame.function) (home_here S s t r dest) (home_here S s t r from) ≡ 0 → MovesAlone S s t
+    copy_alone none = copies_alone (Copy dest from) item dest from held.value held.value copy_held refl (omega arith) in_dest copy_fills copy_step refl none
 
   -- ---- operations
 
@@ -167,6 +246,28 @@ module _ (S : Setting) (s : bril.State) (t : State) (r : RunsAlike S s t) (dear 
       (λ v yields. (unary_gives S.image (sizes S) at q.core operation d a o.value v ready yields, (let block = unary_block operation o.value v yields in let known = q.word.known in omega arith)))
       (λ kind fault. unary_faults S.image (sizes S) at q.core operation d a o.value kind ready fault)
 
+  -- the number of a char
+  module _ (dest operand : ℕ) (item : slice_get r.holds.function.code r.frame.point ≡ Some (Unary unary.CharToInt dest operand)) (finds : UnaryFinds r.frame.locations unary.CharToInt operand) (in_dest : IsSlotOf r.holds.function (Variable dest))
+      (in_operand : IsSlotOf r.holds.function (Variable operand)) where
+    char_held : Holds S s t r (Variable operand) (Char finds.number)
+    char_held = holds_slot S s t r (Unary unary.CharToInt dest operand) item (Variable operand) (Char finds.number) (inl refl) in_operand finds.is
+
+    char_fills : Fills S r.frame (Variable dest)
+    char_fills = fills_slot S r.frame r.holds.function r.holds.there (Unary unary.CharToInt dest operand) item (Variable dest) (inl refl) refl
+
+    char_step : step S.p S.limits s ≡ fills S.p S.slots S.limits (Variable dest) (Int (pos finds.number)) r.frame r.older s
+    char_step =
+        step_at S s t r (Some (Unary unary.CharToInt dest operand)) item
+        ∙ ap (λ v. computes S.p S.slots S.limits (computed (unary_operation unary.CharToInt) None v v) dest r.frame r.older s) (read_is r.frame.locations (Variable operand) (Char finds.number) finds.is)
+
+    char_moves : Moves S s t
+    char_moves =
+        copies (Unary unary.CharToInt dest operand) item (Variable dest) (Variable operand) (Char finds.number) (Int (pos finds.number)) char_held refl (omega arith) in_dest char_fills char_step refl
+        (its_words S r.frame.function r.holds.function r.frame.point (Unary unary.CharToInt dest operand) r.holds.there item)
+
+    pub char_alone : copied_size (S.homes r.frame.function) (home_of dest) (home_of operand) ≡ 0 → MovesAlone S s t
+    char_alone none = copies_alone (Unary unary.CharToInt dest operand) item (Variable dest) (Variable operand) (Char finds.number) (Int (pos finds.number)) char_held refl (omega arith) in_dest char_fills char_step refl none
+
   pub unary_moves : (operation : UnaryOp) (dest operand : ℕ) → slice_get r.holds.function.code r.frame.point ≡ Some (Unary operation dest operand) → UnaryFinds r.frame.locations operation operand →
       IsSlotOf r.holds.function (Variable dest) → IsSlotOf r.holds.function (Variable operand) → Moves S s t
   unary_moves unary.Not dest operand item finds in_dest in_operand =
@@ -179,13 +280,7 @@ module _ (S : Setting) (s : bril.State) (t : State) (r : RunsAlike S s t) (dear 
       operated_moves unary.IntToChar dest operand item finds in_dest in_operand (omega arith) (refl, refl)
       (its_words S r.frame.function h.function r.frame.point (Unary unary.IntToChar dest operand) h.there item) (next_entry S r.frame.function h.function r.frame.point (Unary unary.IntToChar dest operand) h.there item)
   unary_moves unary.CharToInt dest operand item finds in_dest in_operand =
-      let h = r.holds in
-      let there = next_entry S r.frame.function h.function r.frame.point (Unary unary.CharToInt dest operand) h.there item in
-      let is = step_at S s t r (Some (Unary unary.CharToInt dest operand)) item ∙ ap (λ v. computes S.p S.slots S.limits (computed (unary_operation unary.CharToInt) None v v) dest r.frame r.older s) (read_is r.frame.locations (Variable operand) (Char finds.number) finds.is) in
-      copied_moves (Variable dest) (Variable operand) (Char finds.number) (Int (pos finds.number))
-      (holds_slot S s t r (Unary unary.CharToInt dest operand) item (Variable operand) (Char finds.number) (inl refl) in_operand finds.is) refl (omega arith) in_dest
-      (fills_slot S r.frame h.function h.there (Unary unary.CharToInt dest operand) item (Variable dest) (inl refl) refl) is
-      (its_words S r.frame.function h.function r.frame.point (Unary unary.CharToInt dest operand) h.there item) (sym there)
+      char_moves dest operand item finds in_dest in_operand
 
   -- the registers of two operands have their words
   record BothBrought (any : Bool) (x y : ℕ) (u v : Value) (ws : List Word) : Type 0 where

@@ -1,5 +1,5 @@
 -- The item that takes a speculation back where its condition doesn't hold.
-use Rattle.std.proofs.Common.{◌≡◌, ◌≢◌, ℕ, suc, ◌+◌, ◌-◌, ◌*◌, ◌^◌, ◌<◌, ◌≤◌, Bool, true, false, ◌&&◌, cond, eqb, leb, inl, inr, refl, sym, ap, ◌∙◌, subst, arith, List, [], ◌∷◌, length, Some, pos, negsuc}
+use Rattle.std.proofs.Common.{◌≡◌, ◌≢◌, ℕ, suc, ◌+◌, ◌-◌, ◌*◌, ◌^◌, ◌<◌, ◌≤◌, Bool, true, false, ◌&&◌, cond, eqb, inl, inr, refl, sym, ap, ◌∙◌, subst, arith, List, [], ◌∷◌, ◌++◌, length, Some}
 use Rattle.std.specs.Prelude.{slice_get}
 use Rattle.std.specs.List.{Contains}
 use Rattle.std.proofs.lemmas.Bool.{and_parts, eqb-true}
@@ -18,21 +18,17 @@ use Rattle.bril_tree.specs.Step.{advances, at_point, code_of, dropped, saved, st
 use Rattle.bril_tree.specs.Value.{word_of}
 use Rattle.placement_laws.specs.Homes.{slot_of}
 use Rattle.rv64_emit_laws.specs.layout.Homes.{FunctionHomes, depth_at, level_word, moves_of}
-use Rattle.rv64_emit_laws.specs.layout.Items.{guard_front, guard_front_size}
+use Rattle.rv64_emit_laws.specs.layout.Items.{guard_front, guard_front_size, skip_size, skip_words}
 use Rattle.rv64_emit_laws.specs.layout.Laid.{IsGuardAt}
 use Rattle.rv64_emit_laws.proofs.lemmas.layout.Bounding.{moves_restore_most}
 use Rattle.rv64_words_laws.specs.stretches.Core.{Core, Keeps, arrived}
-use Rattle.rv64_words_laws.proofs.lemmas.stretches.Going.{Going, begin, is_place, jump, not_taken, taken}
+use Rattle.rv64_words_laws.proofs.lemmas.stretches.Going.{Going, begin, is_place}
 use Rattle.rv64_words_laws.specs.sequences.Moves.{Move, Restored, register_for, restore_size, restore_words, source_size}
-use Rattle.rv64_words_laws.specs.sequences.Sequences.{jump_offset}
 use Rattle.rv64_words_laws.proofs.lemmas.sequences.Jumps.{guard_jump_to}
 use Rattle.rv64_words_laws.proofs.lemmas.sequences.Moves.{homes_restored}
 use Rattle.rv64_words_laws.proofs.lemmas.sequences.Sizes.{source_most}
 use Rattle.rv64_words.specs.declared.image.GuardAt.{GuardAt}
 use Rattle.rv64_words.specs.declared.word.Word.{Word}
-use Rattle.rv64_words.specs.declared.word.Word.TheVariants.{Jal}
-use Rattle.rv64_words.specs.Arithmetic.{moved_by}
-use Rattle.rv64_words.specs.Mnemonics.{beq}
 use Rattle.rv64_words.specs.State.{State}
 use Rattle.slot_code.specs.declared.item.Slot.{Slot}
 use Rattle.slot_code.specs.declared.item.Slot.TheVariants.{Variable}
@@ -51,17 +47,10 @@ use Rattle.rv64_emit_laws.proofs.Ready.{HoldsBool}
 use Rattle.rv64_emit_laws.proofs.Relation.{FramesHold, GuardsHold, RunsAlike}
 use Rattle.rv64_emit_laws.proofs.Saving.{back_apart, level_moves_can, restored_holds}
 use Rattle.rv64_emit_laws.proofs.Setting.{Setting, entry_of, its_words, next_entry, sizes}
+use Rattle.rv64_emit_laws.proofs.Skipping.{skip_falls, skip_leads}
 use Rattle.rv64_emit_laws.proofs.Speculating.{newest_of}
 use Rattle.rv64_emit_laws.proofs.Standing.{standing}
 use Rattle.rv64_emit_laws.proofs.Stretches.{leaves_in, with_end}
-
--- a jump over so many words
-jumped : (j n : ℕ) → j + n < 2 ^ 20 → moved_by (4 * j) (jump_offset 0 n) ≡ 4 * (j + n)
-jumped j n small = by_test (leb 0 n) refl
-  where
-    by_test : (t : Bool) → leb 0 n ≡ t → moved_by (4 * j) (cond t (pos (4 * (n - 0))) (negsuc (4 * (0 - n) - 1))) ≡ 4 * (j + n)
-    by_test true e = omega arith
-    by_test false e = let h : n < 0 = grind (arith, nat_tests) in absurd (omega arith)
 
 -- what a guard of a level takes back, whose abort leads to a label
 abbrev taken_at : FunctionHomes → ℕ → ℕ → Slot → Bool
@@ -143,8 +132,8 @@ module _ (S : Setting) (s : bril.State) (t : State) (r : RunsAlike S s t) (condi
   -- the words behind those of the condition
   abbrev behind : List Word
   behind =
-      beq (register_for 5 ((S.homes r.frame.function).home (Variable condition))) 0 (pos 8) ∷ Jal 0 (jump_offset 0 (2 + restore_size (taken_moves (S.homes r.frame.function) r.holds.function (depth_at r.holds.function r.frame.point) abort_to)))
-      ∷ restore_words (taken_moves (S.homes r.frame.function) r.holds.function (depth_at r.holds.function r.frame.point) abort_to)
+      skip_words (register_for 5 ((S.homes r.frame.function).home (Variable condition))) (suc (restore_size (taken_moves (S.homes r.frame.function) r.holds.function (depth_at r.holds.function r.frame.point) abort_to)))
+      ++ restore_words (taken_moves (S.homes r.frame.function) r.holds.function (depth_at r.holds.function r.frame.point) abort_to)
 
   -- the condition's word, and what comes after it
   condition_brought : (held : HoldsBool r.frame.locations condition) → IsSlotOf r.holds.function (Variable condition) → Brought S s t r true 5 (Variable condition) (Boolean held.truth) 0 (here S s t r) r.core behind
@@ -168,17 +157,18 @@ module _ (S : Setting) (s : bril.State) (t : State) (r : RunsAlike S s t) (condi
       let cs = restore_size (taken_moves (S.homes r.frame.function) g (depth_at g r.frame.point) abort_to) in
       let b = condition_brought held in_g in
       let differ : eqb (b.core.registers (register_for 5 home)) (b.core.registers 0) ≡ false = ap (λ y. eqb y (b.core.registers 0)) (b.word.is ∙ ap (λ y. word_of (Boolean y)) truth) ∙ ap (eqb 1) (b.keeps.zero_register ∙ h.zero_is) in
-      let g2 = not_taken S.image (sizes S) differ b.going in
       let next = next_entry S r.frame.function g r.frame.point (Guard condition abort_to) h.there item in
       let low = S.laid.few_entries r.frame.function (suc r.frame.point) in
-      let over = jumped (k + o + 1) (2 + cs) (omega arith) in
-      let runs = jump S.image (sizes S) (k + o + 1 + (2 + cs)) over g2 in
+      let q = skip_leads S.image (sizes S) (register_for 5 home) (suc cs) (restore_words (taken_moves (S.homes r.frame.function) g (depth_at g r.frame.point) abort_to)) (omega arith) differ b.going in
+      let some = q.some in
+      let few = q.few in
+      let within = q.within in
       let size = source_most home in
-      let count : 0 + o + 1 + 1 ≡ suc (o + 1) = omega arith in
-      let at : k + o + 1 + (2 + cs) ≡ entry_of S r.frame.function (suc r.frame.point) = omega arith in
-      goes_moves S s t r (advances S.p S.limits r.frame r.older s) (suc r.frame.point) (leads S r.frame h.function h.there (Guard condition abort_to) item (onward r.frame.point) (inl refl) refl refl) b.core (o + 1)
+      let count : q.steps ≡ suc (q.steps - 1) = omega arith in
+      let at : k + o + skip_size (suc cs) + suc cs ≡ entry_of S r.frame.function (suc r.frame.point) = omega arith in
+      goes_moves S s t r (advances S.p S.limits r.frame r.older s) (suc r.frame.point) (leads S r.frame h.function h.there (Guard condition abort_to) item (onward r.frame.point) (inl refl) refl refl) b.core (q.steps - 1)
       (guard_step held held.truth held.is ∙ ap (λ b. slot_guards S.p S.slots S.limits b abort_to r.frame r.older s) truth) refl r.running refl refl refl
-      (comes_in S (suc (o + 1)) (entry_of S r.frame.function (suc r.frame.point)) count at (away S s t r (omega arith) runs)) (omega arith) b.keeps
+      (comes_in S (suc (q.steps - 1)) (entry_of S r.frame.function (suc r.frame.point)) count at (away S s t r (omega arith) q.leads)) (omega arith) b.keeps
 
   module _ (newest : bril.Locals) (rest : List bril.Locals) (saves_is : r.frame.saves ≡ newest ∷ rest) where
     abbrev way : Branch
@@ -243,15 +233,14 @@ module _ (S : Setting) (s : bril.State) (t : State) (r : RunsAlike S s t) (condi
         let low_abort = S.laid.few_entries r.frame.function abort_to in
         let next = next_entry S r.frame.function g r.frame.point (Guard condition abort_to) h.there item in
         let three = source_most home in
-        let skip = Jal 0 (jump_offset 0 (2 + restore_size (taken_moves homes g d abort_to))) in
         let place : k + o < 2 ^ 20 = omega arith in
-        let g2 = taken S.image (sizes S) (skip ∷ []) (restore_words (taken_moves homes g d abort_to)) place (omega arith) same_words b.going in
-        let g3 = with_end (restore_words back) (subst (λ m. Going S.image (sizes S) k r.core (0 + o + 1) (k + o + 1 + 1) b.core (restore_words (taken_moves homes g m abort_to))) depth g2) in
+        let g2 = skip_falls S.image (sizes S) (register_for 5 home) (suc (restore_size (taken_moves homes g d abort_to))) (restore_words (taken_moves homes g d abort_to)) place same_words b.going in
+        let g3 = with_end (restore_words back) (subst (λ m. Going S.image (sizes S) k r.core (0 + o + 1) (k + o + skip_size (suc (restore_size (taken_moves homes g m abort_to)))) b.core (restore_words (taken_moves homes g m abort_to))) depth g2) in
         let can = level_moves_can S (length s.blocks) r.frame r.older r.core h (suc l) (taken_at homes (suc l) abort_to) (omega arith) fit_level in
         let apart = back_apart S (length s.blocks) r.frame r.older r.core h (standing S s t r) newest rest saves_is abort_to way_goes (taken_at homes (suc l) abort_to) chosen all_chosen in
         let q = homes_restored S.image (sizes S) (stack_few S) h.base back b.core [] apart can.no_word can.usable can.inside (b.keeps.frame_register ∙ h.at) g3 in
-        let front_is : front ≡ o + (2 + cs) = ap (λ m. o + (2 + restore_size (taken_moves homes g m abort_to))) depth in
-        let at : k + o + 1 + 1 + cs ≡ k + front = omega arith in
+        let front_is : front ≡ o + (skip_size (suc cs) + cs) = ap (λ m. o + (skip_size (suc (restore_size (taken_moves homes g m abort_to))) + restore_size (taken_moves homes g m abort_to))) depth in
+        let at : k + o + skip_size (suc cs) + cs ≡ k + front = omega arith in
         let g4 = is_place S.image (sizes S) (o + 1 + cs) (k + front) (omega arith) at q.going in
         let has = its_words S r.frame.function g r.frame.point (Guard condition abort_to) h.there item in
         let runs = guard_jump_to S.image (sizes S) (k + front) (entry_of S r.frame.function abort_to) refl (omega arith) (omega arith) has.1 g4 in

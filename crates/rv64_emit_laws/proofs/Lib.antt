@@ -40,6 +40,7 @@ pub mod Rising
 pub mod Saving
 pub mod Setting
 pub mod Showing
+pub mod Skipping
 pub mod Sources
 pub mod Speculating
 pub mod Standing

@@ -1,10 +1,8 @@
 -- One count tells what the image does, and where the machine is at items.
-use Rattle.std.proofs.Common.{◌≡◌, ℕ, zero, suc, ◌+◌, ◌*◌, ◌<◌, ◌≤◌, refl, ⊎_elim, arith}
+use Rattle.std.proofs.Common.{◌≡◌, ℕ, zero, suc, ◌+◌, ◌*◌, ◌<◌, ◌≤◌, arith}
 use Rattle.rv64_image_laws.specs.Implements.{ImplementsRun}
-use Rattle.slot_code.specs.declared.item.SlotItem.TheVariants.{Pass}
 use Rattle.rv64_emit_laws.specs.Entered.{IsEntered, IsFullItem, MeetsItems}
 use Rattle.rv64_emit_laws.specs.Homes.{homes_of}
-use Rattle.rv64_emit_laws.proofs.HavingWords.{words_or_pass}
 use Rattle.rv64_emit_laws.proofs.Entries.{HasWords}
 use Rattle.rv64_emit_laws.proofs.Items.{related_agree}
 use Rattle.rv64_emit_laws.proofs.Setting.{Setting}
@@ -23,7 +21,7 @@ module _ (S : Setting) where
       by : count S n ≤ S.cost * (n + 1) → Way S n (count S n) (count S (suc n)) → count S (suc n) ≤ S.cost * (suc n + 1)
       by h (Rests final same) = omega arith
       by h (Alone nearer same) = omega arith
-      by h (Together i cheap same none no_pass) = omega arith
+      by h (Together i cheap same none full) = omega arith
 
   -- the image does what the program does, by this count
   pub implements_run : ImplementsRun (homes_of S.homes) S.image S.p S.limits S.args
@@ -41,21 +39,21 @@ module _ (S : Setting) where
     prints_only = (tracks S).prints_only;
   }
 
-  full : (f point : ℕ) (is : IsFullItem S.slots f point) → HasWords S f point is.function is.item
-  full f point is = record { there = is.is_function; here = is.is_item; some = ⊎_elim (λ (e : is.item ≡ Pass). absurd (is.has_words e)) (λ some. some) (words_or_pass (S.homes f) is.function point is.item) }
+  full : (f point : ℕ) (is : IsFullItem S.homes S.slots f point) → HasWords S f point is.function is.item
+  full f point is = record { there = is.is_function; here = is.is_item; some = is.has_words }
 
-  entered : (n f point : ℕ) → StandsAt (program_after S n) f point → IsFullItem S.slots f point → IsEntered S.homes S.slots (machine_after S (count S n)) f point
+  entered : (n f point : ℕ) → StandsAt (program_after S n) f point → IsFullItem S.homes S.slots f point → IsEntered S.homes S.slots (machine_after S (count S n)) f point
   entered n f point stands is =
       let at = at_entry S (program_after S n) (machine_after S (count S n)) f point (related_at S n) stands in
       record { function = is.function; item = is.item; is_function = is.is_function; is_item = is.is_item; has_words = is.has_words; running = at.0; at_entry = at.1 }
 
-  rises : (n m f i g j : ℕ) → n < m → StandsAt (program_after S n) f i → IsFullItem S.slots f i → StandsAt (program_after S m) g j → IsFullItem S.slots g j → count S n < count S m
+  rises : (n m f i g j : ℕ) → n < m → StandsAt (program_after S n) f i → IsFullItem S.homes S.slots f i → StandsAt (program_after S m) g j → IsFullItem S.homes S.slots g j → count S n < count S m
   rises n m f i g j less stands is others other =
       later S n m f i g j less (record { stands = stands; function = is.function; item = is.item; has = full f i is }) (record { stands = others; function = other.function; item = other.item; has = full g j other })
 
   only : (m f point : ℕ) → IsEntered S.homes S.slots (machine_after S m) f point → (n : ℕ) × (count S n ≡ m) × StandsAt (program_after S n) f point
   only m f point is =
-      let own : IsFullItem S.slots f point = record { function = is.function; item = is.item; is_function = is.is_function; is_item = is.is_item; has_words = is.has_words } in
+      let own : IsFullItem S.homes S.slots f point = record { function = is.function; item = is.item; is_function = is.is_function; is_item = is.is_item; has_words = is.has_words } in
       let r = found S m f point is.function is.item (full f point own) is.running is.at_entry in
       (r.steps, r.there, r.stands)
 

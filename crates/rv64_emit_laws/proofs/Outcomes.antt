@@ -1,5 +1,5 @@
 -- What the operations compute, of operands that suit them.
-use Rattle.std.proofs.Common.{◌≡◌, ℕ, ◌^◌, ◌≤◌, Bool, true, false, cond, refl, sym, ap, ◌∙◌, arith, None, Some, ℤ, pos, negsuc, ◌+ℤ◌}
+use Rattle.std.proofs.Common.{◌≡◌, ℕ, ◌≤◌, Bool, true, false, cond, refl, sym, ap, ◌∙◌, arith, None, Some, ℤ, pos, negsuc, ◌+ℤ◌}
 use Rattle.bril_tree.specs.declared.limits.Fault.TheVariants as fault
 use Rattle.bril_tree.specs.declared.operators.BinaryOp.{BinaryOp}
 use Rattle.bril_tree.specs.declared.operators.BinaryOp.TheVariants as binary

@@ -26,7 +26,7 @@ module _ (S : Setting) where
       by : Way S n (count S n) (count S (suc n)) → count S n ≤ count S (suc n)
       by (Rests final same) = omega arith
       by (Alone nearer same) = omega arith
-      by (Together i cheap same none no_pass) = omega arith
+      by (Together i cheap same none full) = omega arith
 
   pub count_rises : (n m : ℕ) → n ≤ m → count S n ≤ count S m
   count_rises = rising_from_steps (count S) rises
@@ -55,7 +55,7 @@ module _ (S : Setting) where
       by : (count S (n + d) ≤ count S n → distance S (program_after S (n + d)) + d ≤ distance S (program_after S n)) → Way S (n + d) (count S (n + d)) (count S (suc (n + d))) → distance S (program_after S (suc (n + d))) + suc d ≤ distance S (program_after S n)
       by more (Rests final is) = absurd (running-not_final (program_after S (n + d)).ended before final)
       by more (Alone nearer is) = let so_far = more (let h = high in omega arith) in omega arith
-      by more (Together i cheap is none no_pass) = let l = low in let h = high in absurd (omega arith)
+      by more (Together i cheap is none full) = let l = low in let h = high in absurd (omega arith)
 
   -- ---- the newest frame's item
 

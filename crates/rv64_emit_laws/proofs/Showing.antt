@@ -1,5 +1,5 @@
 -- The theorem: the image of a program with the points of its items shows the program.
-use Rattle.std.proofs.Common.{◌≡◌, ◌⊎◌, ℕ, ◌+◌, ◌*◌, ◌<◌, ◌≤◌, inl, inr, ⊎_elim, List, ◌∷◌, length, Option, Some, None, refl, sym, ap, ◌∙◌, subst, arith, length-append}
+use Rattle.std.proofs.Common.{◌≡◌, ◌⊎◌, ℕ, ◌*◌, ◌<◌, ◌≤◌, inl, inr, ⊎_elim, List, ◌∷◌, length, Option, Some, None, refl, sym, ap, ◌∙◌, subst, arith, length-append}
 use Rattle.std.specs.Prelude.{option_map, slice_get}
 use Rattle.std.proofs.lemmas.List.{length-map}
 use Rattle.std.proofs.lemmas.Option.{slice_get-map, slice_get_within}
@@ -24,7 +24,7 @@ use Rattle.bril_tree.specs.Walk.{IsReached}
 use Rattle.bril_tree.proofs.Acceptance.{accepted_function}
 use Rattle.rv64_image_laws.specs.Home.{IsAt, IsHomeWithin}
 use Rattle.rv64_image_laws.specs.WordBounds.{IsWithin}
-use Rattle.rv64_emit_laws.specs.layout.Homes.{FunctionHomes}
+use Rattle.rv64_emit_laws.specs.layout.Homes.{AreMarked, FunctionHomes}
 use Rattle.rv64_emit_laws.specs.layout.Image.{IsImageOf, entry_at, function_words_at, head_words, image_words, joined, start_at}
 use Rattle.rv64_emit_laws.proofs.lemmas.layout.Guarding.{InItem, in_function, one_item}
 use Rattle.rv64_emit_laws.proofs.lemmas.layout.Joining.{below_or}
@@ -75,7 +75,7 @@ typed_inside f x ty typed = by (slice_get f.vars x) refl typed
     by (Some v) e typed = slice_get_within f.vars x v e
 
 module _ (p : Prog) (homes : ℕ → FunctionHomes) (slots : Slots) (limits : Limits) (image : Image) (points : Points) (accepted : IsAccepted p) (literals : AreLiteralsInRange p) (lowered : IsLowered p slots) (within : IsWithin p limits)
-    (serve : AllHomesServe homes p slots) (is : IsImageOf homes slots limits image) (its : ArePointsOf (homes_of homes) (entry_at homes slots) p points) where
+    (serve : AllHomesServe homes p slots) (marked : AreMarked homes) (is : IsImageOf homes slots limits image) (its : ArePointsOf (homes_of homes) (entry_at homes slots) p points) where
   -- ---- the words of a stop
 
   -- the function and the item of a place of the program
@@ -107,7 +107,7 @@ module _ (p : Prog) (homes : ℕ → FunctionHomes) (slots : Slots) (limits : Li
       let item = lowered_item s.func stop.item in
       let here : slice_get g.function.code i ≡ Some item = ap (λ code. slice_get code i) g.is.code ∙ (slice_get-map (lowered_item s.func) s.func.code i ∙ ap (option_map (lowered_item s.func)) s.here) in
       let no_pass = stop-has p s.func (accepted_function p f s.func accepted s.there) i stop.item s.here stop.stops in
-      let words = ⊎_elim (λ (e : item ≡ Pass). absurd (no_pass e)) (λ some. some) (words_or_pass (homes f) g.function i item) in
+      let words = ⊎_elim (λ (e : item ≡ Pass). absurd (no_pass e)) (λ some. some) (words_or_pass (homes f) (marked f) g.function i item) in
       record {
         function = g.function;
         item = item;
@@ -165,7 +165,7 @@ module _ (p : Prog) (homes : ℕ → FunctionHomes) (slots : Slots) (limits : Li
     has_words : (f i : ℕ) (stop : IsStopAt p f i) → HasWords S f i (stop_words f i stop).function (stop_words f i stop).item
     has_words f i stop =
         let w = stop_words f i stop in
-        record { there = w.is_function; here = w.is_item; some = ⊎_elim (λ (e : w.item ≡ Pass). absurd (w.some e)) (λ some. some) (words_or_pass (homes f) w.function i w.item) }
+        record { there = w.is_function; here = w.is_item; some = ⊎_elim (λ (e : w.item ≡ Pass). absurd (w.some e)) (λ some. some) (words_or_pass (homes f) (marked f) w.function i w.item) }
 
     -- the machine's state at the point's word shows the program's
     home_shows : (n : ℕ) (frame : bril.Frame) (older : List bril.Frame) → (program_after S n).frames ≡ frame ∷ older → (program_after S n).ended ≡ None → (w : IsWellTyped p frame) →
@@ -239,4 +239,4 @@ module _ (p : Prog) (homes : ℕ → FunctionHomes) (slots : Slots) (limits : Li
   image_shows = record { implements = implements p homes slots limits image accepted literals lowered within serve is; points_in = points_in; runs = shows_run }
 
 pub images_show_points : ImagesShowPoints
-images_show_points p homes slots limits image points accepted literals lowered within serve is its = image_shows p homes slots limits image points accepted literals lowered within serve is its
+images_show_points p homes slots limits image points accepted literals lowered within serve marked is its = image_shows p homes slots limits image points accepted literals lowered within serve marked is its

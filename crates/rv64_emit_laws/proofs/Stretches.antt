@@ -1,12 +1,12 @@
 -- Stretches of words: what they keep, and how they are joined.
-use Rattle.std.proofs.Common.{◌≡◌, ℕ, zero, suc, ◌*◌, ◌<◌, ◌≤◌, Bool, true, false, cond, sym, ap, subst, arith, List, [], ◌++◌, append-nil, Some, None}
+use Rattle.std.proofs.Common.{◌≡◌, ℕ, zero, suc, ◌*◌, ◌<◌, ◌≤◌, ◌⊎◌, inl, inr, Bool, true, false, cond, refl, sym, ap, subst, arith, List, [], ◌∷◌, ◌++◌, append-nil, Some, None}
 use Rattle.bril_tree.specs.declared.home.Home.{Home}
 use Rattle.bril_tree.specs.declared.home.Home.TheVariants.{Reg, Frame}
 use Rattle.bril_tree.specs.declared.limits.End.{End}
 use Rattle.rv64_words_laws.specs.stretches.Core.{Core}
 use Rattle.rv64_words_laws.specs.stretches.Runs.{Runs, Leaves, Ends}
 use Rattle.rv64_words_laws.proofs.lemmas.stretches.Going.{Going}
-use Rattle.rv64_words_laws.specs.sequences.Moves.{copy_size}
+use Rattle.rv64_words_laws.specs.sequences.Moves.{Move, copy_size, save_one_size, save_size}
 use Rattle.rv64_words_laws.specs.sequences.Sequences.{constant_size, fits_12, fits_32, is_near, load_size, store_size}
 pub use Rattle.rv64_words_laws.proofs.lemmas.sequences.Homes.{two_not_six}
 pub use Rattle.rv64_words_laws.proofs.lemmas.values.Kept.{keeps_written}
@@ -74,3 +74,17 @@ pub copy_some : (dest from : Home) → 1 ≤ copy_size dest from
 copy_some (Reg r) (Reg s) = omega arith
 copy_some (Frame o) (Reg s) = store_some o
 copy_some dest (Frame p) = let some = load_some p in omega arith
+
+pub save_one_some : (home : Home) (o : ℕ) → 1 ≤ save_one_size home o
+save_one_some (Reg r) o = store_some o
+save_one_some (Frame p) o = let some = load_some p in omega arith
+
+-- moves without words are none
+pub no_moves : (moves : List Move) → save_size moves ≡ 0 → moves ≡ []
+no_moves [] none = refl
+no_moves (m ∷ moves) none = let some = save_one_some m.home m.word in absurd (omega arith)
+
+-- a number of words is none, or there are some
+pub none_or_some : (n : ℕ) → (n ≡ 0) ⊎ (1 ≤ n)
+none_or_some zero = inl refl
+none_or_some (suc n) = inr (omega arith)

@@ -10,7 +10,7 @@ use Rattle.rv64_image_laws.specs.WordBounds.{IsWithin}
 use Rattle.std.specs.Prelude.{ℕ, List}
 use Rattle.bril_tree.specs.declared.value.Value.{Value}
 use Rattle.bril_tree.specs.Run.{FitMain}
-use Rattle.rv64_emit_laws.specs.layout.Homes.{FunctionHomes}
+use Rattle.rv64_emit_laws.specs.layout.Homes.{AreMarked, FunctionHomes}
 use Rattle.rv64_emit_laws.specs.layout.Image.{IsImageOf, entry_at}
 use Rattle.rv64_words.specs.declared.image.Image.{Image}
 use Rattle.rv64_words.specs.declared.points.Points.{Points}
@@ -25,12 +25,13 @@ abbrev pub ImagesImplementPrograms : Type 0
 ImagesImplementPrograms = (p : Prog) (homes : ℕ → FunctionHomes) (slots : Slots) (limits : Limits) (image : Image) → IsAccepted p → AreLiteralsInRange p → IsLowered p slots → IsWithin p limits →
     AllHomesServe homes p slots → IsImageOf homes slots limits image → ImplementsAt (homes_of homes) image p limits
 
--- There the machine is at the first words of items exactly where the program is at the items, with all arguments that fit.
+-- There the machine is at the first words of items that have words exactly where the program is at the items, with all arguments
+-- that fit.
 abbrev pub ImagesMeetItems : Type 0
 ImagesMeetItems = (p : Prog) (homes : ℕ → FunctionHomes) (slots : Slots) (limits : Limits) (image : Image) → IsAccepted p → AreLiteralsInRange p → IsLowered p slots → IsWithin p limits →
     AllHomesServe homes p slots → IsImageOf homes slots limits image → (args : List Value) → FitMain p args → MeetsItems (homes_of homes) homes slots image p limits args
 
--- With the points of the program's items the image shows the program.
+-- With the points of the program's items the image shows the program, where items are marked.
 abbrev pub ImagesShowPoints : Type 0
 ImagesShowPoints = (p : Prog) (homes : ℕ → FunctionHomes) (slots : Slots) (limits : Limits) (image : Image) (points : Points) → IsAccepted p → AreLiteralsInRange p → IsLowered p slots → IsWithin p limits →
-    AllHomesServe homes p slots → IsImageOf homes slots limits image → ArePointsOf (homes_of homes) (entry_at homes slots) p points → Shows image points p limits
+    AllHomesServe homes p slots → AreMarked homes → IsImageOf homes slots limits image → ArePointsOf (homes_of homes) (entry_at homes slots) p points → Shows image points p limits

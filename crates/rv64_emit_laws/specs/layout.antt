@@ -3,3 +3,4 @@ pub mod Homes
 pub mod Image
 pub mod Items
 pub mod Laid
+pub mod Reach

@@ -11,13 +11,14 @@ pub fn images_implement_programs()
 {}
 
 /// One count of words tells what that image does and when its machine is before the first words of items: exactly where the program
-/// is at these items, in order. All items but labels and `nop`s have words.
+/// is at these items, in order. Labels and `nop`s have no words; nor have jumps to the next item, copies from a home to itself,
+/// `commit`, and `speculate` where nothing is kept, unless items are marked.
 pub fn images_meet_items()
     ensures { ImagesMeetItems }
 {}
 
-/// With a point for each item other than a label and `nop` that some walk leads to, that image shows the program: its machine is at
-/// the points exactly where the program is at their items, in order, and each live variable is at its home.
+/// With a point for each item other than a label and `nop` that some walk leads to, that image, in which items are marked, shows the
+/// program: its machine is at the points exactly where the program is at their items, in order, and each live variable is at its home.
 pub fn images_show_points()
     ensures { ImagesShowPoints }
 {}

@@ -113,6 +113,14 @@ fn name_of_branch(group: Group) -> &'static str {
         Group::LessBranch(..) => "LessBranch",
         Group::SameBranch(..) => "SameBranch",
         Group::NotLessBranch(..) => "NotLessBranch",
+        Group::DirectBranch(..) => "DirectBranch",
+        Group::LessDirectBranch(..) => "LessDirectBranch",
+        Group::SameDirectBranch(..) => "SameDirectBranch",
+        Group::NotLessDirectBranch(..) => "NotLessDirectBranch",
+        Group::TurnedBranch(..) => "TurnedBranch",
+        Group::LessTurnedBranch(..) => "LessTurnedBranch",
+        Group::SameTurnedBranch(..) => "SameTurnedBranch",
+        Group::NotLessTurnedBranch(..) => "NotLessTurnedBranch",
         Group::Divide(..) => "Divide",
         Group::ToChar(..) => "ToChar",
         _ => name_of_cell(group),
@@ -180,6 +188,8 @@ fn name_of_frame(group: Group) -> &'static str {
         Group::FrameConstant(..) => "FrameConstant",
         Group::FrameCopy(..) => "FrameCopy",
         Group::FrameBranch(..) => "FrameBranch",
+        Group::FrameDirectBranch(..) => "FrameDirectBranch",
+        Group::FrameTurnedBranch(..) => "FrameTurnedBranch",
         _ => "Single",
     }
 }

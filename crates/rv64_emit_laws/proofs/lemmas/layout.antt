@@ -9,4 +9,5 @@ pub mod Lengths
 pub mod MoveLists
 pub mod Moving
 pub mod Placing
+pub mod Reaching
 pub mod Registers

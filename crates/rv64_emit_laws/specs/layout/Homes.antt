@@ -3,7 +3,7 @@
 -- A frame is words of 64 bits from the address in register 2 on: word 0 is the way back, a pc in bytes, word 1 the caller's
 -- register 2, and word 2 + j the own word of slot j. What is kept of the slots as they were at open speculation l, from 1, stands
 -- in as many words after those of the speculation before it.
-use Rattle.std.specs.Prelude.{ℕ, suc, ◌+◌, ◌*◌, ◌==◌, ◌&&◌, Bool, true, false, not, nat_lt, if◌then◌else◌, List, [], ◌∷◌, length, Option, Some, None, slice_index}
+use Rattle.std.specs.Prelude.{◌≡◌, ℕ, suc, ◌+◌, ◌*◌, ◌==◌, ◌&&◌, Bool, true, false, not, nat_lt, if◌then◌else◌, List, [], ◌∷◌, length, Option, Some, None, slice_index}
 use Rattle.bril_tree.specs.declared.home.Home.{Home}
 use Rattle.bril_tree.specs.declared.home.Home.TheVariants.{Reg, Frame}
 use Rattle.bril_tree.specs.FrameWords.{frame_head}
@@ -27,11 +27,17 @@ depth_at g point = slice_index g.depths point
 
 -- ---- homes
 
--- of one function: where each slot is, whether a speculation of a level, from 1, keeps it, and whether it is live at a point
+-- Of one function: where each slot is, whether a speculation of a level, from 1, keeps it, and whether it is live at a point; and
+-- whether items are marked, which then have a word each, also those for which nothing is to be done, but for labels and `nop`.
 pub record FunctionHomes : Type 0 where
   pub home : Slot → Home
   pub saved : ℕ → Slot → Bool
   pub live : ℕ → Slot → Bool
+  pub marked : Bool
+
+-- items are marked in all functions
+abbrev pub AreMarked : (ℕ → FunctionHomes) → Type 0
+AreMarked homes = (f : ℕ) → (homes f).marked ≡ true
 
 abbrev pub variable_home : FunctionHomes → ℕ → Home
 variable_home homes x = homes.home (Variable x)

@@ -3,16 +3,20 @@
 -- Register 2 has the address of the frame, and register 8 the number of frames that may still be made. Operands that aren't in
 -- registers are brought into 5 and 7, and results that don't go to registers are left in 5 or 10; 6 has the address of a far
 -- word of the frame, and 7 that of a far frame.
-use Rattle.std.specs.Prelude.{ℕ, suc, ◌+◌, List, [], ◌∷◌, ◌++◌, Option, Some, None, pos, negsuc}
+use Rattle.std.specs.Prelude.{ℕ, suc, ◌+◌, ◌*◌, ◌==◌, Bool, false, nat_lt, if◌then◌else◌, List, [], ◌∷◌, ◌++◌, Option, Some, None, pos, negsuc}
 use Rattle.bril_tree.specs.declared.types.Base.{Base}
 use Rattle.bril_tree.specs.declared.types.Base.TheVariants as base
 use Rattle.bril_tree.specs.declared.home.Home.{Home}
+use Rattle.bril_tree.specs.declared.home.Home.TheVariants.{Reg, Frame}
 use Rattle.bril_tree.specs.declared.operators.BinaryOp.{BinaryOp}
 use Rattle.bril_tree.specs.declared.operators.UnaryOp.{UnaryOp}
 use Rattle.bril_tree.specs.declared.operators.UnaryOp.TheVariants as unary
 use Rattle.bril_tree.specs.FrameWords.{frame_head}
 use Rattle.bril_tree.specs.Value.{word_of}
 use Rattle.rv64_words.specs.declared.word.Word.{Word}
+use Rattle.rv64_words.specs.declared.word.Condition.{Condition}
+use Rattle.rv64_words.specs.declared.word.Condition.TheVariants as tests
+use Rattle.rv64_words.specs.declared.word.Word.TheVariants as words
 use Rattle.rv64_words.specs.declared.word.Word.TheVariants.{Jal, Jalr, Ld, Ecall}
 use Rattle.rv64_words.specs.Mnemonics.{addi, beq, bne}
 use Rattle.slot_code.specs.declared.item.Printed.{Printed}
@@ -23,6 +27,42 @@ use Rattle.rv64_words_laws.specs.sequences.Operations.{unary_takes_any, unary_wo
 use Rattle.rv64_words_laws.specs.sequences.Moves.{register_for, source_words, source_size, target_words, target_size, copy_words, copy_size, operand_register, operand_words, operand_size, result_register, result_words, result_size, fetch_words, fetch_size, fill_words, fill_size, save_words, save_size, restore_words, restore_size}
 use Rattle.rv64_words_laws.specs.sequences.Sequences.{constant_words, store_words, fault_words, jump_offset, frame_up_words, constant_size, store_size, frame_up_size}
 use Rattle.rv64_emit_laws.specs.layout.Homes.{FunctionHomes, variable_home, call_moves, guard_moves, speculate_moves}
+use Rattle.rv64_emit_laws.specs.layout.Reach.{is_in_reach}
+
+-- ---- items for which nothing is to be done
+
+-- a word that does nothing
+abbrev pub nop_word : Word
+nop_word = addi 0 0 (pos 0)
+
+-- such an item has this word where items are marked, else none
+abbrev pub mark_words : FunctionHomes → List Word
+mark_words homes = if homes.marked then nop_word ∷ [] else []
+
+abbrev pub mark_size : FunctionHomes → ℕ
+mark_size homes = if homes.marked then 1 else 0
+
+-- an item is the one behind that at a point
+abbrev pub is_next : (point to : ℕ) → Bool
+is_next point to = to == suc point
+
+-- a jump to the next item is one, and so is a copy from a home to itself
+abbrev pub jump_words : FunctionHomes → (entry : ℕ → ℕ) → (point at to : ℕ) → List Word
+jump_words homes entry point at to = if is_next point to then mark_words homes else Jal 0 (jump_offset at (entry to)) ∷ []
+
+abbrev pub jump_size : FunctionHomes → (point to : ℕ) → ℕ
+jump_size homes point to = if is_next point to then mark_size homes else 1
+
+abbrev pub same_home : Home → Home → Bool
+same_home (Reg a) (Reg b) = a == b
+same_home (Frame a) (Frame b) = a == b
+same_home _ _ = false
+
+abbrev pub copied_words : FunctionHomes → (dest from : Home) → List Word
+copied_words homes dest from = if same_home dest from then mark_words homes else copy_words dest from
+
+abbrev pub copied_size : FunctionHomes → (dest from : Home) → ℕ
+copied_size homes dest from = if same_home dest from then mark_size homes else copy_size dest from
 
 -- ---- the frame
 
@@ -119,34 +159,72 @@ abbrev pub print_size : FunctionHomes → List Printed → ℕ
 print_size homes [] = 2
 print_size homes (a ∷ args) = 4 + (fetch_size (variable_home homes a.variable) + spaced_size homes args)
 
+-- ---- branches
+
+-- To an item from word `at` at a point, where register r and 0 meet a condition, else on: by one branch where it reaches, else by a
+-- jump that the branch of the other condition skips. Items begin where `entry` says.
+abbrev pub way_words : SlotFunction → (entry : ℕ → ℕ) → (point at : ℕ) → (leads skips : Condition) → (r to : ℕ) → List Word
+way_words g entry point at leads skips r to =
+    if is_in_reach g point to then words.Branch leads r 0 (jump_offset at (entry to)) ∷ []
+    else words.Branch skips r 0 (pos 8) ∷ Jal 0 (jump_offset (at + 1) (entry to)) ∷ []
+
+abbrev pub way_size : SlotFunction → (point to : ℕ) → ℕ
+way_size g point to = if is_in_reach g point to then 1 else 2
+
+-- the words of a branch at a point behind those of its condition, which register r has: where one item is the next, those lead to
+-- the other
+abbrev pub branch_words : SlotFunction → (entry : ℕ → ℕ) → (point at r then_to else_to : ℕ) → List Word
+branch_words g entry point at r then_to else_to =
+    if is_next point else_to then way_words g entry point at tests.Ne tests.Eq r then_to
+    else (if is_next point then_to then way_words g entry point at tests.Eq tests.Ne r else_to
+    else beq r 0 (pos 8) ∷ Jal 0 (jump_offset (at + 1) (entry then_to)) ∷ Jal 0 (jump_offset (at + 2) (entry else_to)) ∷ [])
+
+abbrev pub branch_size : SlotFunction → (point then_to else_to : ℕ) → ℕ
+branch_size g point then_to else_to =
+    if is_next point else_to then way_size g point then_to else (if is_next point then_to then way_size g point else_to else 3)
+
 -- ---- speculation
 
--- a word that does nothing
-abbrev pub nop_word : Word
-nop_word = addi 0 0 (pos 0)
+-- one branch leads over so many words: it reaches 4 KiB
+abbrev pub reaches_over : ℕ → Bool
+reaches_over count = nat_lt count 1023
 
--- the words of the guard at a point before its last, the jump to its abort: over them where the condition holds, else what the
+-- over so many words where register r isn't 0: by one branch where it reaches, else by a jump that another branch skips
+abbrev pub skip_words : (r count : ℕ) → List Word
+skip_words r count =
+    if reaches_over count then bne r 0 (pos (4 * suc count)) ∷ []
+    else beq r 0 (pos 8) ∷ Jal 0 (jump_offset 0 (suc count)) ∷ []
+
+abbrev pub skip_size : ℕ → ℕ
+skip_size count = if reaches_over count then 1 else 2
+
+-- how many words of the guard at a point are for a condition that doesn't hold: those that put back what the newest open
+-- speculation kept, and the jump to its abort
+abbrev pub failing_size : FunctionHomes → SlotFunction → (point label : ℕ) → ℕ
+failing_size homes g point label = suc (restore_size (guard_moves homes g point label))
+
+-- the words of the guard at a point before its last, the jump to its abort: over the rest where the condition holds, else what the
 -- newest open speculation kept goes back to its homes
 abbrev pub guard_front : FunctionHomes → SlotFunction → (point condition label : ℕ) → List Word
 guard_front homes g point condition label =
-    source_words 5 (variable_home homes condition) ++ beq (register_for 5 (variable_home homes condition)) 0 (pos 8) ∷ Jal 0 (jump_offset 0 (2 + restore_size (guard_moves homes g point label)))
-    ∷ restore_words (guard_moves homes g point label)
+    source_words 5 (variable_home homes condition) ++ (skip_words (register_for 5 (variable_home homes condition)) (failing_size homes g point label) ++ restore_words (guard_moves homes g point label))
 
 abbrev pub guard_front_size : FunctionHomes → SlotFunction → (point condition label : ℕ) → ℕ
-guard_front_size homes g point condition label = source_size (variable_home homes condition) + (2 + restore_size (guard_moves homes g point label))
+guard_front_size homes g point condition label =
+    source_size (variable_home homes condition) + (skip_size (failing_size homes g point label) + restore_size (guard_moves homes g point label))
 
 -- ---- operations
 
 -- the number of a char is its word already, so that `char2int` is a copy
-abbrev pub unary_item_words : UnaryOp → (dest operand : Home) → List Word
-unary_item_words unary.CharToInt dest operand = copy_words dest operand
-unary_item_words operation dest operand =
+abbrev pub unary_item_words : FunctionHomes → UnaryOp → (dest operand : Home) → List Word
+unary_item_words homes unary.CharToInt dest operand = copied_words homes dest operand
+unary_item_words homes operation dest operand =
     let any = unary_takes_any operation in
     operand_words any 5 operand ++ (unary_words operation (result_register any dest) (operand_register any 5 operand) ++ result_words any dest)
 
-abbrev pub unary_item_size : UnaryOp → (dest operand : Home) → ℕ
-unary_item_size unary.CharToInt dest operand = copy_size dest operand
-unary_item_size operation dest operand =
+abbrev pub unary_item_size : FunctionHomes → UnaryOp → (dest operand : Home) → ℕ
+unary_item_size homes unary.CharToInt dest operand = copied_size homes dest operand
+unary_item_size homes operation dest operand =
     let any = unary_takes_any operation in
     operand_size any operand + (unary_size operation + result_size any dest)
 
@@ -167,11 +245,11 @@ binary_item_size operation dest first second =
 abbrev pub item_size : FunctionHomes → SlotFunction → ℕ → SlotItem → ℕ
 item_size homes g point Pass = 0
 item_size homes g point (Constant dest value) = constant_size (word_of value) + target_size (variable_home homes dest)
-item_size homes g point (Copy dest from) = copy_size (homes.home dest) (homes.home from)
-item_size homes g point (Unary operation dest operand) = unary_item_size operation (variable_home homes dest) (variable_home homes operand)
+item_size homes g point (Copy dest from) = copied_size homes (homes.home dest) (homes.home from)
+item_size homes g point (Unary operation dest operand) = unary_item_size homes operation (variable_home homes dest) (variable_home homes operand)
 item_size homes g point (Binary operation dest first second) = binary_item_size operation (variable_home homes dest) (variable_home homes first) (variable_home homes second)
-item_size homes g point (Jump to) = 1
-item_size homes g point (Branch condition then_to else_to) = source_size (variable_home homes condition) + 3
+item_size homes g point (Jump to) = jump_size homes point to
+item_size homes g point (Branch condition then_to else_to) = source_size (variable_home homes condition) + branch_size g point then_to else_to
 item_size homes g point (Call dest function args) =
     before_call homes g point dest args + (1 + (restore_size (call_moves homes g point dest) + call_result_size homes dest))
 item_size homes g point (Return value) = returned_size homes value + 4
@@ -180,8 +258,8 @@ item_size homes g point (Alloc dest count) = fetch_size (variable_home homes cou
 item_size homes g point (Free pointer) = fetch_size (variable_home homes pointer) + 2
 item_size homes g point (Store pointer value) = fetch_size (variable_home homes pointer) + (16 + (source_size (variable_home homes value) + 1))
 item_size homes g point (Load dest pointer) = fetch_size (variable_home homes pointer) + (20 + target_size (variable_home homes dest))
-item_size homes g point Speculate = save_size (speculate_moves homes g point) + 1
-item_size homes g point Commit = 1
+item_size homes g point Speculate = save_size (speculate_moves homes g point) + mark_size homes
+item_size homes g point Commit = mark_size homes
 item_size homes g point (Guard condition abort_to) = guard_front_size homes g point condition abort_to + 1
 
 -- where functions begin, where the items of this function begin, and where the item at this point does
@@ -194,13 +272,13 @@ module _ (homes : FunctionHomes) (start entry : ℕ → ℕ) (g : SlotFunction) 
   abbrev pub item_words : SlotItem → List Word
   item_words Pass = []
   item_words (Constant dest value) = constant_words (register_for 5 (variable_home homes dest)) (word_of value) ++ target_words 5 (variable_home homes dest)
-  item_words (Copy dest from) = copy_words (homes.home dest) (homes.home from)
-  item_words (Unary operation dest operand) = unary_item_words operation (variable_home homes dest) (variable_home homes operand)
+  item_words (Copy dest from) = copied_words homes (homes.home dest) (homes.home from)
+  item_words (Unary operation dest operand) = unary_item_words homes operation (variable_home homes dest) (variable_home homes operand)
   item_words (Binary operation dest first second) = binary_item_words operation (variable_home homes dest) (variable_home homes first) (variable_home homes second)
-  item_words (Jump to) = Jal 0 (jump_offset here (entry to)) ∷ []
+  item_words (Jump to) = jump_words homes entry point here to
   item_words (Branch condition then_to else_to) =
-      let at = here + source_size (variable_home homes condition) in
-      source_words 5 (variable_home homes condition) ++ beq (register_for 5 (variable_home homes condition)) 0 (pos 8) ∷ Jal 0 (jump_offset (at + 1) (entry then_to)) ∷ Jal 0 (jump_offset (at + 2) (entry else_to)) ∷ []
+      let home = variable_home homes condition in
+      source_words 5 home ++ branch_words g entry point (here + source_size home) (register_for 5 home) then_to else_to
   item_words (Call dest function args) = call_words homes g point here dest (start function) args
   item_words (Return value) = returned_words homes value ++ leave_words
   item_words (Print args) = print_words homes args
@@ -210,6 +288,6 @@ module _ (homes : FunctionHomes) (start entry : ℕ → ℕ) (g : SlotFunction) 
       fetch_words 5 (variable_home homes pointer) ++ (cell_words ++ (mark_cell_words ++ (source_words 5 (variable_home homes value) ++ store_cell_words (register_for 5 (variable_home homes value)))))
   item_words (Load dest pointer) =
       fetch_words 5 (variable_home homes pointer) ++ (cell_words ++ (load_cell_words (register_for 5 (variable_home homes dest)) ++ target_words 5 (variable_home homes dest)))
-  item_words Speculate = save_words (speculate_moves homes g point) ++ nop_word ∷ []
-  item_words Commit = nop_word ∷ []
+  item_words Speculate = save_words (speculate_moves homes g point) ++ mark_words homes
+  item_words Commit = mark_words homes
   item_words (Guard condition abort_to) = guard_front homes g point condition abort_to ++ abort_word condition abort_to ∷ []

@@ -1,9 +1,10 @@
 use Rattle.std.proofs.Common.{◌≡◌, ◌++◌, length, map, sym, ap, ◌∙◌, subst, arith}
 use Rattle.rv64_words.specs.Encoding.{encoded}
 use Rattle.rv64_emit_laws.specs.layout.Image.{joined, item_words_at}
+use Rattle.rv64_emit_laws.proofs.lemmas.layout.Reaching.{entries_near}
 use Rattle.rv64_emit.specs.Moved.{AreMovable}
 use Rattle.rv64_emit.specs.Placed.{all_homes, homes_in}
-use Rattle.rv64_emit.proofs.Placed.{turn, starts_few, entries_few, here_is, items_next, function_put, opening_put}
+use Rattle.rv64_emit.proofs.Placed.{turn, starts_few, entries_are, entries_few, here_is, items_next, function_put, opening_put}
 use Rattle.rv64_emit.proofs.image.put_function.Goals as goal
 
 pub put_opening-requires : goal.put_opening-requires
@@ -31,6 +32,17 @@ put_item-requires-clause-here c =
     let begun = opening_put (all_homes c.args.homes.now) c.args.slots.now c.args.number c.function_at-func.result.now (homes_in c.in_function-own.result) c.function_at-func.ensures c.in_function-own.ensures c.args.code.now c.put_opening.new.code c.requires.here (c.in_ok-put_opening.ensures {u = tt}) in
     let at = here_is (all_homes c.args.homes.now) c.args.slots.now c.args.number c.function_at-func.result.now c.function_at-func.ensures c.put_opening.new.code c.loop-point.code c.loop-point.point begun c.loop-point.invariant in
     omega (arith, at, t.next, t.inside, t.entry)
+
+pub put_item-requires-clause-near : goal.put_item-requires-clause-near
+put_item-requires-clause-near c = λ to told. (
+    let homes = all_homes c.args.homes.now in
+    let slots = c.args.slots.now in
+    let func = c.function_at-func.result.now in
+    let begun = opening_put homes slots c.args.number func (homes_in c.in_function-own.result) c.function_at-func.ensures c.in_function-own.ensures c.args.code.now c.put_opening.new.code c.requires.here (c.in_ok-put_opening.ensures {u = tt}) in
+    let at = here_is homes slots c.args.number func c.function_at-func.ensures c.put_opening.new.code c.loop-point.code c.loop-point.point begun c.loop-point.invariant in
+    let there = entries_are homes slots c.args.number func c.function_at-func.ensures c.args.entries.now c.requires.entries to in
+    let apart = entries_near homes slots c.args.number func c.function_at-func.ensures c.loop-point.point to told in
+    (omega (arith, apart.0, at, there), omega (arith, apart.1, at, there)))
 
 pub loop-point-preserved : goal.loop-point-preserved
 loop-point-preserved c =

@@ -18,3 +18,9 @@ put_print-requires c =
     let homes = homes_in c.args.homes.now in
     let slots = subst (λ item. AllByRecursion (λ slot. IsReached (homes.home slot)) (slots_used item)) c.in-Print.is c.requires.fits.slots in
     subst (AllByRecursion (λ a. IsReached (variable_home homes a.variable))) (sym c.as_slice-in-Print.ensures) (printed_are (λ slot. IsReached (homes.home slot)) c.in-Print.args slots)
+
+pub put_branch-requires-clause-near_then : goal.put_branch-requires-clause-near_then
+put_branch-requires-clause-near_then c = c.requires.near c.in-Branch.then_to
+
+pub put_branch-requires-clause-near_else : goal.put_branch-requires-clause-near_else
+put_branch-requires-clause-near_else c = c.requires.near c.in-Branch.else_to

@@ -29,13 +29,14 @@ use Rattle.slot_code.specs.declared.slots.SlotFunction.{SlotFunction}
 use Rattle.slot_code.specs.declared.slots.Slots.{Slots}
 use Rattle.slot_code.specs.Lowered.{IsLowered, IsLoweredFunction, lowered_action, lowered_item, printed_as}
 use Rattle.rv64_words_laws.specs.sequences.Operations.{unary_size, binary_size, binary_takes_any}
-use Rattle.rv64_words_laws.specs.sequences.Moves.{Move, save_one_size, save_size, restore_one_size, restore_size}
+use Rattle.rv64_words_laws.specs.sequences.Moves.{Move, copy_size, save_one_size, save_size, restore_one_size, restore_size}
 use Rattle.rv64_words_laws.specs.sequences.Sequences.{constant_size, frame_up_size, fits_12, fits_32}
 pub use Rattle.rv64_words_laws.proofs.lemmas.sequences.Sizes.{load_most, store_most, fetch_most, fill_most, source_most, target_most, operand_most, result_most, copy_most}
 use Rattle.rv64_emit_laws.specs.layout.Homes.{FunctionHomes, variable_home, moves_from, moves_of, guard_moves, speculate_moves}
 use Rattle.rv64_emit_laws.specs.layout.Image.{sum_below, size_or_none, size_at, function_size, function_size_or_none, start_at}
-use Rattle.rv64_emit_laws.specs.layout.Items.{item_size, unary_item_size, binary_item_size, pass_size, call_result_size, returned_size, spaced_size, print_size, argument_word}
+use Rattle.rv64_emit_laws.specs.layout.Items.{item_size, unary_item_size, binary_item_size, pass_size, call_result_size, returned_size, spaced_size, print_size, argument_word, branch_size, copied_size, failing_size, is_next, jump_size, mark_size, reaches_over, same_home, skip_size, way_size}
 use Rattle.rv64_emit_laws.specs.layout.Laid.{AreHomes, HaveHomes}
+use Rattle.rv64_emit_laws.specs.layout.Reach.{is_in_reach}
 use Rattle.rv64_emit_laws.proofs.lemmas.layout.Joining.{sum_below-most, sum_passes}
 pub use Rattle.rv64_emit_laws.proofs.lemmas.layout.Registers.{call_moves_most, call_moves_back_most, opening_most}
 
@@ -83,6 +84,30 @@ moves_restore_most homes g first test = omega (arith, restore_most (moves_of hom
 pub frame_up_most : (wide : ℕ) → frame_up_size wide ≤ 5
 frame_up_most wide = of_two _ 2 5 5 (omega arith) (omega arith)
 
+way_most : (g : SlotFunction) (point to : ℕ) → way_size g point to ≤ 2
+way_most g point to = of_two (is_in_reach g point to) 1 2 2 (omega arith) (omega arith)
+
+pub branch_most : (g : SlotFunction) (point then_to else_to : ℕ) → branch_size g point then_to else_to ≤ 3
+branch_most g point then_to else_to =
+    of_two (is_next point else_to) (way_size g point then_to) _ 3 (omega (arith, way_most g point then_to)) (of_two (is_next point then_to) (way_size g point else_to) 3 3 (omega (arith, way_most g point else_to)) (omega arith))
+
+some_of_two : (t : Bool) (m n : ℕ) → 1 ≤ m → 1 ≤ n → 1 ≤ cond t m n
+some_of_two true m n first second = first
+some_of_two false m n first second = second
+
+way_some : (g : SlotFunction) (point to : ℕ) → 1 ≤ way_size g point to
+way_some g point to = some_of_two (is_in_reach g point to) 1 2 (omega arith) (omega arith)
+
+pub branch_some : (g : SlotFunction) (point then_to else_to : ℕ) → 1 ≤ branch_size g point then_to else_to
+branch_some g point then_to else_to =
+    some_of_two (is_next point else_to) (way_size g point then_to) _ (way_some g point then_to) (some_of_two (is_next point then_to) (way_size g point else_to) 3 (way_some g point else_to) (omega arith))
+
+pub skip_most : (count : ℕ) → skip_size count ≤ 2
+skip_most count = of_two _ 1 2 2 (omega arith) (omega arith)
+
+pub skip_some : (count : ℕ) → 1 ≤ skip_size count
+skip_some count = some_of_two (reaches_over count) 1 2 (omega arith) (omega arith)
+
 pub pass_most : (homes : FunctionHomes) (g : SlotFunction) (k : ℕ) (args : List ℕ) → pass_size homes g k args ≤ 6 * length args
 pass_most homes g k [] = omega arith
 pass_most homes g k (a ∷ args) = omega (arith, source_most (variable_home homes a), store_most (argument_word g k), pass_most homes g (suc k) args)
@@ -125,10 +150,19 @@ most_size slots Speculate = 6 * slots + 1
 most_size slots Commit = 1
 most_size slots (Guard condition abort_to) = 6 * slots + 6
 
-pub unary_item_most : (operation : UnaryOp) (dest operand : Home) → unary_item_size operation dest operand ≤ 6 + unary_size operation
-unary_item_most unary.Not dest operand = omega (arith, operand_most true operand, result_most true dest)
-unary_item_most unary.CharToInt dest operand = copy_most dest operand
-unary_item_most unary.IntToChar dest operand = omega (arith, operand_most false operand, result_most false dest)
+pub mark_most : (homes : FunctionHomes) → mark_size homes ≤ 1
+mark_most homes = of_two homes.marked 1 0 1 (omega arith) (omega arith)
+
+pub jump_most : (homes : FunctionHomes) (point to : ℕ) → jump_size homes point to ≤ 1
+jump_most homes point to = of_two (is_next point to) (mark_size homes) 1 1 (mark_most homes) (omega arith)
+
+pub copied_most : (homes : FunctionHomes) (dest from : Home) → copied_size homes dest from ≤ 6
+copied_most homes dest from = of_two (same_home dest from) (mark_size homes) (copy_size dest from) 6 (omega (arith, mark_most homes)) (copy_most dest from)
+
+pub unary_item_most : (homes : FunctionHomes) (operation : UnaryOp) (dest operand : Home) → unary_item_size homes operation dest operand ≤ 6 + unary_size operation
+unary_item_most homes unary.Not dest operand = omega (arith, operand_most true operand, result_most true dest)
+unary_item_most homes unary.CharToInt dest operand = copied_most homes dest operand
+unary_item_most homes unary.IntToChar dest operand = omega (arith, operand_most false operand, result_most false dest)
 
 pub binary_item_most : (operation : BinaryOp) (dest first second : Home) → binary_item_size operation dest first second ≤ 9 + binary_size operation
 binary_item_most operation dest first second =
@@ -139,11 +173,11 @@ module _ (homes : FunctionHomes) (f : Func) (g : SlotFunction) (is : IsLoweredFu
   pub item_most : (item : SlotItem) → item_size homes g point item ≤ most_size (length g.slots) item
   item_most Pass = omega arith
   item_most (Constant dest value) = omega (arith, constant_most (word_of value), target_most (variable_home homes dest))
-  item_most (Copy dest from) = copy_most (homes.home dest) (homes.home from)
-  item_most (Unary operation dest operand) = unary_item_most operation (variable_home homes dest) (variable_home homes operand)
+  item_most (Copy dest from) = copied_most homes (homes.home dest) (homes.home from)
+  item_most (Unary operation dest operand) = unary_item_most homes operation (variable_home homes dest) (variable_home homes operand)
   item_most (Binary operation dest first second) = binary_item_most operation (variable_home homes dest) (variable_home homes first) (variable_home homes second)
-  item_most (Jump to) = omega arith
-  item_most (Branch condition then_to else_to) = omega (arith, source_most (variable_home homes condition))
+  item_most (Jump to) = jump_most homes point to
+  item_most (Branch condition then_to else_to) = omega (arith, source_most (variable_home homes condition), branch_most g point then_to else_to)
   item_most (Call dest function args) =
       omega (arith, call_moves_most homes f g is are point dest, call_moves_back_most homes f g is are point dest, pass_most homes g 0 args, frame_up_most g.words, call_result_most homes dest)
   item_most (Return value) = omega (arith, returned_most homes value)
@@ -152,11 +186,11 @@ module _ (homes : FunctionHomes) (f : Func) (g : SlotFunction) (is : IsLoweredFu
   item_most (Free pointer) = omega (arith, fetch_most (variable_home homes pointer))
   item_most (Store pointer value) = omega (arith, fetch_most (variable_home homes pointer), source_most (variable_home homes value))
   item_most (Load dest pointer) = omega (arith, fetch_most (variable_home homes pointer), target_most (variable_home homes dest))
-  item_most Speculate = let most : save_size (speculate_moves homes g point) ≤ 6 * length g.slots = moves_save_most homes g _ _ in omega arith
-  item_most Commit = omega arith
+  item_most Speculate = let most : save_size (speculate_moves homes g point) ≤ 6 * length g.slots = moves_save_most homes g _ _ in omega (arith, mark_most homes)
+  item_most Commit = mark_most homes
   item_most (Guard condition abort_to) =
       let most : restore_size (guard_moves homes g point abort_to) ≤ 6 * length g.slots = moves_restore_most homes g _ _ in
-      omega (arith, source_most (variable_home homes condition))
+      omega (arith, source_most (variable_home homes condition), skip_most (failing_size homes g point abort_to))
 
 module _ (f : Func) (locations : ℕ) where
   action_bounded : (operation : Op) (dest : Option ℕ) (ty : Option Ty) (args funcs labels : List ℕ) →

@@ -1,20 +1,25 @@
 -- The words of sequences have encodings.
-use Rattle.std.proofs.Common.{◌≡◌, ℕ, suc, ◌+◌, ◌*◌, ◌%◌, ◌-◌, ◌^◌, ◌<◌, ◌≤◌, Bool, true, false, cond, ◌&&◌, eqb, ltb, leb, ℤ, pos, negsuc, List, [], ◌∷◌, ◌++◌, length, refl, arith}
+use Rattle.std.proofs.Common.{◌≡◌, ℕ, suc, ◌+◌, ◌*◌, ◌%◌, ◌-◌, ◌^◌, ◌<◌, ◌≤◌, Bool, true, false, cond, ◌&&◌, eqb, ltb, leb, ℤ, pos, negsuc, List, [], ◌∷◌, ◌++◌, length, refl, ap, arith}
 use Rattle.std.proofs.lemmas.Bool.{and_parts, ltb-true, eqb-true}
 use Rattle.std.proofs.lemmas.Bool.Decides.{nat_tests}
 use Rattle.std.proofs.lemmas.Int.{ints}
 use Rattle.std.specs.List.{AllByRecursion}
 use Rattle.bril_tree.specs.declared.home.Home.{Home}
 use Rattle.bril_tree.specs.declared.home.Home.TheVariants.{Reg, Frame}
+use Rattle.rv64_words.specs.declared.word.Condition.{Condition}
+use Rattle.rv64_words.specs.declared.word.Condition.TheVariants as tests
 use Rattle.rv64_words.specs.declared.word.Word.{Word}
 use Rattle.rv64_words.specs.declared.word.Word.TheVariants.{Lui, Jal, Jalr, Branch, Ld, Sd, OpImm, ShiftImm, Op, Ecall}
 use Rattle.rv64_words.specs.Encoding.{IsWord}
 use Rattle.rv64_words.specs.Fields.{IsImmediate, IsBranchOffset, IsJumpOffset}
 use Rattle.rv64_words.proofs.Encodings.{IsImmediate-signed_12}
 use Rattle.slot_code.specs.declared.item.Slot.{Slot}
+use Rattle.slot_code.specs.declared.slots.SlotFunction.{SlotFunction}
 use Rattle.rv64_words_laws.specs.sequences.Moves.{register_for, source_words, target_words, copy_words, operand_register, operand_words, result_words, fetch_words, fill_words, save_one, save_words, restore_one, restore_words}
 use Rattle.rv64_emit_laws.specs.layout.Fits.{IsReached}
 use Rattle.rv64_emit_laws.specs.layout.Homes.{FunctionHomes, moves_from}
+use Rattle.rv64_emit_laws.specs.layout.Items.{branch_size, branch_words, copied_words, is_next, jump_words, mark_words, nop_word, reaches_over, same_home, skip_words, way_size, way_words}
+use Rattle.rv64_emit_laws.specs.layout.Reach.{is_in_reach}
 use Rattle.rv64_words_laws.specs.sequences.Sequences.{high_part, low_part, constant_words, load_words, store_words, frame_up_words, jump_offset, fits_12, fits_32, is_near}
 
 -- ---- a test of words
@@ -194,6 +199,13 @@ copy_fits dest (Frame o) reached_dest reached =
     let five : 5 < 32 = omega arith in
     both (load_words (register_for 5 dest) o) (target_words 5 dest) (load_fits (register_for 5 dest) o (register_fits 5 dest five reached_dest) (omega arith)) (target_fits 5 dest five reached_dest)
 
+-- items for which nothing may be to be done
+pub mark_fits : (homes : FunctionHomes) → AreWords (mark_words homes)
+mark_fits homes = one_of homes.marked _ _ (λ h. words (nop_word ∷ []) refl) (λ h. tt)
+
+pub copied_fits : (homes : FunctionHomes) (dest from : Home) → IsReached dest → IsReached from → AreWords (copied_words homes dest from)
+copied_fits homes dest from reached_dest reached = one_of (same_home dest from) _ _ (λ h. mark_fits homes) (λ h. copy_fits dest from reached_dest reached)
+
 save_one_fits : (home : Home) (o : ℕ) → IsReached home → IsFar o → AreWords (save_one home o)
 save_one_fits (Reg r) o reached far = store_fits r o reached far
 save_one_fits (Frame p) o reached far = let five : 5 < 32 = omega arith in both (load_words 5 p) (store_words 5 o) (load_fits 5 p five (omega arith)) (store_fits 5 o five far)
@@ -254,3 +266,51 @@ jump_fits a b from to = by (leb a b) refl
     by : (t : Bool) → leb a b ≡ t → IsJumpOffset (cond t (pos (4 * (b - a))) (negsuc (4 * (a - b) - 1)))
     by true h = (omega (arith, ints), omega (arith, ints), omega arith)
     by false h = let k : b < a = grind (arith, nat_tests) in (omega (arith, ints), omega (arith, ints), omega arith)
+
+-- to an item
+pub leap_fits : (homes : FunctionHomes) (entry : ℕ → ℕ) (point at to : ℕ) → ((k : ℕ) → entry k ≤ 250000) → at ≤ 250000 → AreWords (jump_words homes entry point at to)
+leap_fits homes entry point at to entries few =
+    let none : 0 < 32 = omega arith in
+    one_of (is_next point to) _ _ (λ h. mark_fits homes) (λ h. ((none, jump_fits at (entry to) few (entries to)), tt))
+
+-- over so many words: one branch where it reaches
+pub skip_fits : (r count : ℕ) → r < 32 → suc count ≤ 250000 → AreWords (skip_words r count)
+skip_fits r count register few =
+    let none : 0 < 32 = omega arith in
+    one_of (reaches_over count) _ _ (λ h. ((register, none, reach h), tt)) (λ h. ((register, none, branch_offset (pos 8) refl), ((none, jump_fits 0 (suc count) (omega arith) few), tt)))
+  where
+    reach : reaches_over count ≡ true → IsBranchOffset (pos (4 * suc count))
+    reach h = let k = ltb-true count 1023 h in (omega (arith, ints), omega (arith, ints), omega arith)
+
+-- a branch over at most 1,000 words, from word a to word b
+near_fits : (a b : ℕ) → a ≤ b + 1000 → b ≤ a + 1000 → IsBranchOffset (jump_offset a b)
+near_fits a b down up = by (leb a b) refl
+  where
+    by : (t : Bool) → leb a b ≡ t → IsBranchOffset (cond t (pos (4 * (b - a))) (negsuc (4 * (a - b) - 1)))
+    by true h = let k : a ≤ b = grind (arith, nat_tests) in (omega (arith, ints), omega (arith, ints), omega arith)
+    by false h = let k : b < a = grind (arith, nat_tests) in (omega (arith, ints), omega (arith, ints), omega arith)
+
+-- to one item or to another
+module _ (g : SlotFunction) (entry : ℕ → ℕ) (point at : ℕ) (entries : (k : ℕ) → entry k ≤ 250000) (near : (to : ℕ) → is_in_reach g point to ≡ true → (entry to ≤ at + 1000) × (at ≤ entry to + 1000)) where
+  way_fits : (leads skips : Condition) (r to : ℕ) → r < 32 → at + way_size g point to ≤ 250000 → AreWords (way_words g entry point at leads skips r to)
+  way_fits leads skips r to register few =
+      let none : 0 < 32 = omega arith in
+      let first = branch_offset (pos 8) refl in
+      one_of (is_in_reach g point to) _ _ (λ h. (let apart = near to h in ((register, none, near_fits at (entry to) apart.1 apart.0), tt)))
+      (λ h. (let two : way_size g point to ≡ 2 = ap (λ t. cond t 1 2) h in ((register, none, first), ((none, jump_fits (at + 1) (entry to) (omega arith) (entries to)), tt))))
+
+  pub branch_fits : (r then_to else_to : ℕ) → r < 32 → at + branch_size g point then_to else_to ≤ 250000 → AreWords (branch_words g entry point at r then_to else_to)
+  branch_fits r then_to else_to register few =
+      let none : 0 < 32 = omega arith in
+      let first = branch_offset (pos 8) refl in
+      one_of (is_next point else_to) _ _
+      (λ h. (let size : branch_size g point then_to else_to ≡ way_size g point then_to = ap (λ t. cond t (way_size g point then_to) (cond (is_next point then_to) (way_size g point else_to) 3)) h in
+      way_fits tests.Ne tests.Eq r then_to register (omega arith)))
+      (λ h. (let size : branch_size g point then_to else_to ≡ cond (is_next point then_to) (way_size g point else_to) 3 = ap (λ t. cond t (way_size g point then_to) (cond (is_next point then_to) (way_size g point else_to) 3)) h in
+      one_of (is_next point then_to) _ _
+      (λ k. (let other : cond (is_next point then_to) (way_size g point else_to) 3 ≡ way_size g point else_to = ap (λ t. cond t (way_size g point else_to) 3) k in
+      way_fits tests.Eq tests.Ne r else_to register (omega arith)))
+      (λ k. (let three : cond (is_next point then_to) (way_size g point else_to) 3 ≡ 3 = ap (λ t. cond t (way_size g point else_to) 3) k in (
+        (register, none, first),
+        ((none, jump_fits (at + 1) (entry then_to) (omega arith) (entries then_to)), ((none, jump_fits (at + 2) (entry else_to) (omega arith) (entries else_to)), tt)),
+      )))))

@@ -30,8 +30,10 @@ use Rattle.rv64_words_laws.specs.sequences.Sequences.{constant_words, fault_word
 use Rattle.rv64_emit_laws.specs.layout.Homes.{FunctionHomes, variable_home, depth_at, level_word, call_moves, opening_moves, speculate_moves}
 use Rattle.rv64_emit_laws.specs.layout.Image.{opening_words}
 use Rattle.rv64_emit_laws.specs.layout.Fits.{IsReached, ItemFits}
-use Rattle.rv64_emit_laws.specs.layout.Items.{item_size, item_words, unary_item_words, binary_item_words, room_words, pass_words, call_result_words, leave_words, returned_words, environment_words, print_call, value_words, spaced_words, print_words, guard_front, guard_front_size, before_call, argument_word, nop_word}
-use Rattle.rv64_emit_laws.proofs.lemmas.layout.Encodable.{AreWords, words, both, immediate, branch_offset, store_fits, fetch_fits, fill_fits, source_fits, target_fits, register_fits, operand_fits, operand_register_fits, result_fits, copy_fits, saves_fit, restores_fit, constant_fits, frame_up_fits, jump_fits}
+use Rattle.rv64_emit_laws.specs.layout.Items.{item_size, item_words, unary_item_words, binary_item_words, room_words, pass_words, call_result_words, leave_words, returned_words, environment_words, print_call, value_words, spaced_words, print_words, guard_front, guard_front_size, before_call, argument_word, failing_size, skip_words}
+use Rattle.rv64_emit_laws.specs.layout.Reach.{is_in_reach}
+use Rattle.rv64_emit_laws.proofs.lemmas.layout.Bounding.{skip_some, source_most}
+use Rattle.rv64_emit_laws.proofs.lemmas.layout.Encodable.{AreWords, words, both, immediate, branch_offset, branch_fits, store_fits, fetch_fits, fill_fits, source_fits, target_fits, register_fits, operand_fits, operand_register_fits, result_fits, copied_fits, leap_fits, mark_fits, saves_fit, restores_fit, constant_fits, frame_up_fits, jump_fits, skip_fits}
 
 none : 0 < 32
 none = omega arith
@@ -60,12 +62,12 @@ unary_fits unary.Not d a to from = ((to, from, immediate (pos 1) refl), tt)
 unary_fits unary.CharToInt d a to from = tt
 unary_fits unary.IntToChar d a to from = words int_to_char_words refl
 
-unary_item_fits : (operation : UnaryOp) (dest operand : Home) → IsReached dest → IsReached operand → AreWords (unary_item_words operation dest operand)
-unary_item_fits unary.Not dest operand to from =
+unary_item_fits : (homes : FunctionHomes) (operation : UnaryOp) (dest operand : Home) → IsReached dest → IsReached operand → AreWords (unary_item_words homes operation dest operand)
+unary_item_fits homes unary.Not dest operand to from =
     both (operand_words true 5 operand) _ (operand_fits true 5 operand five from)
     (both (unary_words unary.Not (result_register true dest) (operand_register true 5 operand)) _ (unary_fits unary.Not _ _ (operand_register_fits true 5 dest five to) (operand_register_fits true 5 operand five from)) (result_fits true dest to))
-unary_item_fits unary.CharToInt dest operand to from = copy_fits dest operand to from
-unary_item_fits unary.IntToChar dest operand to from =
+unary_item_fits homes unary.CharToInt dest operand to from = copied_fits homes dest operand to from
+unary_item_fits homes unary.IntToChar dest operand to from =
     both (operand_words false 5 operand) _ (operand_fits false 5 operand five from) (both int_to_char_words _ (words int_to_char_words refl) (result_fits false dest to))
 
 module _ (d a b : ℕ) (to : d < 32) (first : a < 32) (second : b < 32) where
@@ -117,7 +119,8 @@ opening_fits homes g slots few =
 -- ---- items
 
 -- the number of words from the first item's on
-module _ (homes : FunctionHomes) (start entry : ℕ → ℕ) (g : SlotFunction) (point here : ℕ) (starts : (f : ℕ) → start f ≤ 250000) (entries : (label : ℕ) → entry label ≤ 250000) where
+module _ (homes : FunctionHomes) (start entry : ℕ → ℕ) (g : SlotFunction) (point here : ℕ) (starts : (f : ℕ) → start f ≤ 250000) (entries : (label : ℕ) → entry label ≤ 250000)
+    (near : (to : ℕ) → is_in_reach g point to ≡ true → (entry to ≤ here + 988) × (here ≤ entry to + 988)) where
   pass_fits : (k : ℕ) (args : List ℕ) → g.words < 2 ^ 26 → k + length args < 2 ^ 27 → AllByRecursion (λ slot. IsReached (homes.home slot)) (map Variable args) → AreWords (pass_words homes g k args)
   pass_fits k [] frame few slots = tt
   pass_fits k (a ∷ args) frame few slots =
@@ -169,15 +172,15 @@ module _ (homes : FunctionHomes) (start entry : ℕ → ℕ) (g : SlotFunction) 
   item_encodable (Constant dest value) fits few =
       let home = variable_home homes dest in
       both (constant_words (register_for 5 home) (word_of value)) (target_words 5 home) (constant_fits (register_for 5 home) (word_of value) (register_fits 5 home five fits.slots.0) (word_small value fits.constant)) (target_fits 5 home five fits.slots.0)
-  item_encodable (Copy dest from) fits few = copy_fits (homes.home dest) (homes.home from) fits.slots.0 fits.slots.1.0
-  item_encodable (Unary operation dest operand) fits few = unary_item_fits operation (variable_home homes dest) (variable_home homes operand) fits.slots.0 fits.slots.1.0
+  item_encodable (Copy dest from) fits few = copied_fits homes (homes.home dest) (homes.home from) fits.slots.0 fits.slots.1.0
+  item_encodable (Unary operation dest operand) fits few = unary_item_fits homes operation (variable_home homes dest) (variable_home homes operand) fits.slots.0 fits.slots.1.0
   item_encodable (Binary operation dest first second) fits few = binary_item_fits operation (variable_home homes dest) (variable_home homes first) (variable_home homes second) fits.slots.0 fits.slots.1.0 fits.slots.1.1.0
-  item_encodable (Jump to) fits few = ((omega arith, jump_fits here (entry to) (omega arith) (entries to)), tt)
+  item_encodable (Jump to) fits few = leap_fits homes entry point here to entries (omega arith)
   item_encodable (Branch condition then_to else_to) fits few =
       let home = variable_home homes condition in
-      let at = here + source_size home in
+      let size = source_most home in
       both (source_words 5 home) _ (source_fits 5 home five fits.slots.0)
-      ((register_fits 5 home five fits.slots.0, none, branch_offset (pos 8) refl), ((omega arith, jump_fits (at + 1) (entry then_to) (omega arith) (entries then_to)), ((omega arith, jump_fits (at + 2) (entry else_to) (omega arith) (entries else_to)), tt)))
+      (branch_fits g entry point (here + source_size home) entries (λ to told. (let apart = near to told in (omega (arith, apart.0), omega (arith, apart.1)))) (register_for 5 home) then_to else_to (register_fits 5 home five fits.slots.0) (omega arith))
   item_encodable (Call dest function args) fits few =
       let moves = call_moves homes g point dest in
       let room = own_fits fits.levels in
@@ -206,17 +209,15 @@ module _ (homes : FunctionHomes) (start entry : ℕ → ℕ) (g : SlotFunction) 
       (both (load_cell_words (register_for 5 home)) (target_words 5 home) (load_cell_fits (register_for 5 home) (register_fits 5 home five fits.slots.0)) (target_fits 5 home five fits.slots.0)))
   item_encodable Speculate fits few =
       both (save_words (speculate_moves homes g point)) _
-      (saves_fit homes (level_word g (suc (depth_at g point))) _ 0 g.slots fits.all_slots (level_fits (suc (depth_at g point)) fits.levels (omega arith))) (words (nop_word ∷ []) refl)
-  item_encodable Commit fits few = words (nop_word ∷ []) refl
+      (saves_fit homes (level_word g (suc (depth_at g point))) _ 0 g.slots fits.all_slots (level_fits (suc (depth_at g point)) fits.levels (omega arith))) (mark_fits homes)
+  item_encodable Commit fits few = mark_fits homes
   item_encodable (Guard condition abort_to) fits few =
       let home = variable_home homes condition in
       let size = guard_front_size homes g point condition abort_to in
+      let count = failing_size homes g point abort_to in
+      let some = skip_some count in
       both (guard_front homes g point condition abort_to) _
-      (both (source_words 5 home) _ (source_fits 5 home five fits.slots.0) (
-        (register_fits 5 home five fits.slots.0, none, branch_offset (pos 8) refl),
-        (
-          (omega arith, jump_fits 0 _ (omega arith) (omega arith)),
-          restores_fit homes (level_word g (depth_at g point)) _ 0 g.slots fits.all_slots (level_fits (depth_at g point) fits.levels (omega arith)),
-        ),
-      ))
+      (both (source_words 5 home) _ (source_fits 5 home five fits.slots.0)
+      (both (skip_words (register_for 5 home) count) _ (skip_fits (register_for 5 home) count (register_fits 5 home five fits.slots.0) (omega arith))
+      (restores_fit homes (level_word g (depth_at g point)) _ 0 g.slots fits.all_slots (level_fits (depth_at g point) fits.levels (omega arith)))))
       ((omega arith, jump_fits (here + size) (entry abort_to) (omega arith) (entries abort_to)), tt)

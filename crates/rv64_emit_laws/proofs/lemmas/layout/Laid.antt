@@ -31,6 +31,7 @@ use Rattle.rv64_emit_laws.proofs.lemmas.layout.Guarding.{each_at, guards_are, In
 use Rattle.rv64_emit_laws.proofs.lemmas.layout.ItemWords.{item_encodable, opening_fits}
 use Rattle.rv64_emit_laws.proofs.lemmas.layout.Joining.{ListedAt, take_words, drop_words, listed_after, piece_listed, joined-length}
 use Rattle.rv64_emit_laws.proofs.lemmas.layout.Lengths.{item_length, guard_front_length, restore_length}
+use Rattle.rv64_emit_laws.proofs.lemmas.layout.Reaching.{entries_near}
 use Rattle.rv64_emit_laws.proofs.lemmas.layout.Placing.{entry_is, words_next, words_pass, words_at_end, starts_most, function_inside, entries_most}
 
 -- ---- lengths
@@ -211,7 +212,7 @@ module _ (homes : ℕ → FunctionHomes) (slots : Slots) (limits : Limits) (imag
           omega (arith, few)
 
       encodable : AreWords its_words
-      encodable = item_encodable (homes f) (start_at homes slots) (entry_at homes slots f) g point here few_starts (few_entries f) item (fits f g point item is_g is_item) inside
+      encodable = item_encodable (homes f) (start_at homes slots) (entry_at homes slots f) g point here few_starts (few_entries f) (entries_near homes slots f g is_g point) item (fits f g point item is_g is_item) inside
 
       listed : ListedAt (image_words homes slots limits) here its_words
       listed = item_listed homes slots limits f g point item is_g is_item

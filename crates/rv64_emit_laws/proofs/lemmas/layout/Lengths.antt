@@ -7,6 +7,8 @@ use Rattle.bril_tree.specs.declared.operators.BinaryOp.TheVariants as binary
 use Rattle.bril_tree.specs.declared.operators.UnaryOp.{UnaryOp}
 use Rattle.bril_tree.specs.declared.operators.UnaryOp.TheVariants as unary
 use Rattle.bril_tree.specs.Value.{word_of}
+use Rattle.rv64_words.specs.declared.word.Condition.{Condition}
+use Rattle.rv64_words.specs.declared.word.Condition.TheVariants as tests
 use Rattle.rv64_words.specs.declared.word.Word.{Word}
 use Rattle.rv64_words.specs.declared.word.Word.TheVariants.{Jal}
 use Rattle.slot_code.specs.declared.item.Printed.{Printed}
@@ -17,7 +19,8 @@ use Rattle.rv64_words_laws.specs.sequences.Operations.{store_cell_words, unary_w
 use Rattle.rv64_words_laws.specs.sequences.Moves.{Move, register_for, source_words, source_size, target_words, target_size, copy_words, copy_size, operand_words, operand_size, result_words, result_size, fetch_words, fetch_size, fill_words, fill_size, save_one, save_one_size, save_words, save_size, restore_one, restore_one_size, restore_words, restore_size}
 use Rattle.rv64_words_laws.specs.sequences.Sequences.{constant_words, load_words, store_words, frame_up_words, jump_offset, fits_12, fits_32, is_near, constant_size, load_size, store_size, frame_up_size}
 use Rattle.rv64_emit_laws.specs.layout.Homes.{FunctionHomes, variable_home, call_moves, guard_moves, speculate_moves}
-use Rattle.rv64_emit_laws.specs.layout.Items.{item_size, item_words, unary_item_words, unary_item_size, binary_item_words, binary_item_size, pass_words, pass_size, call_result_words, call_result_size, call_words, before_call, after_call, returned_words, returned_size, value_words, spaced_words, spaced_size, print_words, print_size, environment_words, print_call, guard_front, guard_front_size, argument_word}
+use Rattle.rv64_emit_laws.specs.layout.Items.{item_size, item_words, unary_item_words, unary_item_size, binary_item_words, binary_item_size, pass_words, pass_size, call_result_words, call_result_size, call_words, before_call, after_call, returned_words, returned_size, value_words, spaced_words, spaced_size, print_words, print_size, environment_words, print_call, guard_front, guard_front_size, argument_word, branch_size, branch_words, copied_size, copied_words, failing_size, is_next, mark_size, mark_words, reaches_over, same_home, skip_size, skip_words, way_size, way_words}
+use Rattle.rv64_emit_laws.specs.layout.Reach.{is_in_reach}
 
 -- a list that a test chooses
 chosen : (t : Bool) (xs ys : List Word) (m n : ℕ) → length xs ≡ m → length ys ≡ n → length (cond t xs ys) ≡ cond t m n
@@ -107,15 +110,23 @@ binary_length binary.And d a b = refl
 binary_length binary.Or d a b = refl
 binary_length binary.PtrAdd d a b = refl
 
+-- ---- items for which nothing may be to be done
+
+pub mark_length : (homes : FunctionHomes) → length (mark_words homes) ≡ mark_size homes
+mark_length homes = chosen homes.marked _ _ 1 0 refl refl
+
+pub copied_length : (homes : FunctionHomes) (dest from : Home) → length (copied_words homes dest from) ≡ copied_size homes dest from
+copied_length homes dest from = chosen (same_home dest from) _ _ _ _ (mark_length homes) (copy_length dest from)
+
 -- ---- operations
 
-pub unary_item_length : (operation : UnaryOp) (dest operand : Home) → length (unary_item_words operation dest operand) ≡ unary_item_size operation dest operand
-unary_item_length unary.Not dest operand =
+pub unary_item_length : (homes : FunctionHomes) (operation : UnaryOp) (dest operand : Home) → length (unary_item_words homes operation dest operand) ≡ unary_item_size homes operation dest operand
+unary_item_length homes unary.Not dest operand =
     let d = register_for 5 dest in
     let a = register_for 5 operand in
     joined (operand_words true 5 operand) _ _ _ (operand_length true 5 operand) (joined (unary_words unary.Not d a) _ _ _ (unary_length unary.Not d a) (result_length true dest))
-unary_item_length unary.CharToInt dest operand = copy_length dest operand
-unary_item_length unary.IntToChar dest operand = joined (operand_words false 5 operand) _ _ _ (operand_length false 5 operand) (joined (unary_words unary.IntToChar 5 5) _ _ _ (unary_length unary.IntToChar 5 5) (result_length false dest))
+unary_item_length homes unary.CharToInt dest operand = copied_length homes dest operand
+unary_item_length homes unary.IntToChar dest operand = joined (operand_words false 5 operand) _ _ _ (operand_length false 5 operand) (joined (unary_words unary.IntToChar 5 5) _ _ _ (unary_length unary.IntToChar 5 5) (result_length false dest))
 
 pub binary_item_length : (operation : BinaryOp) (dest first second : Home) → length (binary_item_words operation dest first second) ≡ binary_item_size operation dest first second
 binary_item_length operation dest first second =
@@ -154,10 +165,22 @@ print_length homes (a ∷ args) =
     let all = joined (value_words homes a) (spaced_words homes args ++ environment_words 5) _ _ value rest in
     omega (arith, all)
 
+way_length : (g : SlotFunction) (entry : ℕ → ℕ) (point at : ℕ) (leads skips : Condition) (r to : ℕ) → length (way_words g entry point at leads skips r to) ≡ way_size g point to
+way_length g entry point at leads skips r to = chosen (is_in_reach g point to) _ _ 1 2 refl refl
+
+pub branch_length : (g : SlotFunction) (entry : ℕ → ℕ) (point at r then_to else_to : ℕ) → length (branch_words g entry point at r then_to else_to) ≡ branch_size g point then_to else_to
+branch_length g entry point at r then_to else_to =
+    chosen (is_next point else_to) _ _ _ _ (way_length g entry point at tests.Ne tests.Eq r then_to) (chosen (is_next point then_to) _ _ _ 3 (way_length g entry point at tests.Eq tests.Ne r else_to) refl)
+
+pub skip_length : (r count : ℕ) → length (skip_words r count) ≡ skip_size count
+skip_length r count = chosen (reaches_over count) _ _ 1 2 refl refl
+
 pub guard_front_length : (homes : FunctionHomes) (g : SlotFunction) (point condition label : ℕ) → length (guard_front homes g point condition label) ≡ guard_front_size homes g point condition label
 guard_front_length homes g point condition label =
-    let back = restore_length (guard_moves homes g point label) in
-    joined (source_words 5 (variable_home homes condition)) _ _ _ (source_length 5 (variable_home homes condition)) (omega (arith, back))
+    let home = variable_home homes condition in
+    let count = failing_size homes g point label in
+    let moves = guard_moves homes g point label in
+    joined (source_words 5 home) _ _ _ (source_length 5 home) (joined (skip_words (register_for 5 home) count) (restore_words moves) _ _ (skip_length (register_for 5 home) count) (restore_length moves))
 
 pub call_length : (homes : FunctionHomes) (g : SlotFunction) (point here : ℕ) (dest : Option ℕ) (start : ℕ) (args : List ℕ) →
     length (call_words homes g point here dest start args) ≡ before_call homes g point dest args + (1 + (restore_size (call_moves homes g point dest) + call_result_size homes dest))
@@ -177,11 +200,13 @@ item_length homes start entry g point here Pass = refl
 item_length homes start entry g point here (Constant dest value) =
     let home = variable_home homes dest in
     joined (constant_words (register_for 5 home) (word_of value)) _ _ _ (constant_length (register_for 5 home) (word_of value)) (target_length 5 home)
-item_length homes start entry g point here (Copy dest from) = copy_length (homes.home dest) (homes.home from)
-item_length homes start entry g point here (Unary operation dest operand) = unary_item_length operation (variable_home homes dest) (variable_home homes operand)
+item_length homes start entry g point here (Copy dest from) = copied_length homes (homes.home dest) (homes.home from)
+item_length homes start entry g point here (Unary operation dest operand) = unary_item_length homes operation (variable_home homes dest) (variable_home homes operand)
 item_length homes start entry g point here (Binary operation dest first second) = binary_item_length operation (variable_home homes dest) (variable_home homes first) (variable_home homes second)
-item_length homes start entry g point here (Jump to) = refl
-item_length homes start entry g point here (Branch condition then_to else_to) = joined (source_words 5 (variable_home homes condition)) _ _ 3 (source_length 5 (variable_home homes condition)) refl
+item_length homes start entry g point here (Jump to) = chosen (is_next point to) _ _ _ 1 (mark_length homes) refl
+item_length homes start entry g point here (Branch condition then_to else_to) =
+    let home = variable_home homes condition in
+    joined (source_words 5 home) _ _ _ (source_length 5 home) (branch_length g entry point (here + source_size home) (register_for 5 home) then_to else_to)
 item_length homes start entry g point here (Call dest function args) = call_length homes g point here dest (start function) args
 item_length homes start entry g point here (Return value) = joined (returned_words homes value) _ _ 4 (returned_length homes value) refl
 item_length homes start entry g point here (Print args) = print_length homes args
@@ -196,6 +221,6 @@ item_length homes start entry g point here (Store pointer value) =
 item_length homes start entry g point here (Load dest pointer) =
     let last = target_length 5 (variable_home homes dest) in
     joined (fetch_words 5 (variable_home homes pointer)) _ _ _ (fetch_length 5 (variable_home homes pointer)) (omega (arith, last))
-item_length homes start entry g point here Speculate = joined (save_words (speculate_moves homes g point)) _ _ 1 (save_length (speculate_moves homes g point)) refl
-item_length homes start entry g point here Commit = refl
+item_length homes start entry g point here Speculate = joined (save_words (speculate_moves homes g point)) _ _ _ (save_length (speculate_moves homes g point)) (mark_length homes)
+item_length homes start entry g point here Commit = mark_length homes
 item_length homes start entry g point here (Guard condition abort_to) = joined (guard_front homes g point condition abort_to) _ _ 1 (guard_front_length homes g point condition abort_to) refl
