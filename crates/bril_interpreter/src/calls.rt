@@ -7,16 +7,27 @@ use crate::frame::Frame;
 use crate::interp::Interp;
 use crate::locals::Locals;
 use crate::lookup::variables_of;
+use crate::table::blank_of;
 use bril_tree::limits::{End, Fault};
 use bril_tree::numbered::Instr;
 use bril_tree::value::Value;
-use std::alloc::AllocError;
+use std::alloc::{AllocError, Global};
 use std::mem;
 
-// Keeps the lists of locations for a later call, where there is room. Takes no memory.
-fn keep(spare: &mut Vec<Locals>, locations: Locals) {
-    if spare.len() < spare.capacity() {
-        spare.push_reserved(locations);
+// Keeps lists of locations for a later call or save, where there is room. Takes no memory.
+pub fn keep(spare: &mut Vec<Locals>, lists: Option<Locals>) {
+    if let Some(lists) = lists {
+        if spare.len() < spare.capacity() {
+            spare.push_reserved(lists);
+        }
+    }
+}
+
+// Lists of locations for a call or a save, whatever they hold. Takes no memory.
+pub fn spare_lists(spare: &mut Vec<Locals>, alloc: Global) -> Locals {
+    match spare.pop() {
+        Some(used) => used,
+        None => Locals::none(alloc),
     }
 }
 
@@ -50,7 +61,7 @@ impl<'a> Interp<'a> {
             return Ok(());
         }
         let frame = self.new_frame(callee, args)?;
-        self.spare.reserve(1)?;
+        self.spare.reserve(self.older.len() + 1)?;
         self.older.reserve(1)?;
         let caller = mem::replace(&mut self.newest, frame);
         self.older.push_reserved(caller);
@@ -64,12 +75,10 @@ impl<'a> Interp<'a> {
         ensures form { IfOk result (λ frame. IsFrame self.old.checked.prog frame) }
     {
         let alloc = *self.older.allocator();
-        let mut locations = match self.spare.pop() {
-            Some(used) => used,
-            None => Locals::none(alloc),
-        };
+        let mut locations = spare_lists(&mut self.spare, alloc);
         let variables = variables_of(self.checked.prog(), callee);
-        locations.renew(self.newest.locations(), args, variables)?;
+        let blank = blank_of(self.tables.as_slice(), callee);
+        locations.renew(self.newest.locations(), args, variables, blank)?;
         Ok(Frame::start(alloc, callee, locations))
     }
 
@@ -81,7 +90,7 @@ impl<'a> Interp<'a> {
             None => self.finish(),
             Some(caller) => {
                 let done = mem::replace(&mut self.newest, caller);
-                keep(&mut self.spare, done.into_locations());
+                keep(&mut self.spare, Some(done.into_locations()));
                 let dest = self.awaited();
                 self.give(dest, value);
             }

@@ -2,6 +2,7 @@
 
 ghost use Rattle.std.specs.Prelude.{◌≡◌, OnOk, OnErr};
 
+use crate::calls::{keep, spare_lists};
 use crate::interp::Interp;
 use bril_tree::value::Value;
 use std::alloc::AllocError;
@@ -27,8 +28,9 @@ impl<'a> Interp<'a> {
         ensures ok { OnOk result (Makes self.old (under self.old speculates) self.new) }
         ensures err { OnErr result (self.new ≡ self.old) }
     {
-        let alloc = *self.older.allocator();
-        self.newest.save(alloc)?;
+        self.spare.reserve(1)?;
+        let lists = spare_lists(&mut self.spare, *self.older.allocator());
+        self.newest.save(lists)?;
         self.newest.advance();
         Ok(())
     }
@@ -38,7 +40,8 @@ impl<'a> Interp<'a> {
         requires { IsAtItem self.old }
         ensures { Makes self.old (under self.old commits) self.new }
     {
-        self.newest.drop_save();
+        let dropped = self.newest.drop_save();
+        keep(&mut self.spare, dropped);
         self.newest.advance();
     }
 
@@ -52,7 +55,8 @@ impl<'a> Interp<'a> {
             return self.advance();
         }
         self.count_failure();
-        self.newest.put_back();
+        let dropped = self.newest.put_back();
+        keep(&mut self.spare, dropped);
         self.jump(label);
     }
 

@@ -1,36 +1,61 @@
-use Rattle.std.proofs.Common.{◌≡◌, ◌∙◌, ℕ, ◌-◌, ◌++◌, List, length, map, replicate, Option, Some, None, sym, ap}
-use Rattle.std.proofs.lemmas.List.{length-map}
+use Rattle.std.proofs.Common.{◌≡◌, ◌∙◌, ℕ, zero, suc, ◌+◌, ◌-◌, List, [], ◌∷◌, ◌++◌, drop, length, map, replicate, Option, Some, None, sym, ap, arith}
+use Rattle.std.proofs.lemmas.List.{length-map, replicate_more}
 use Rattle.bril_tree.specs.declared.value.Value.{Value}
 use Rattle.bril_tree.specs.State.{read}
 use Rattle.bril_tree.specs.Step.{new_frame}
 use Rattle.bril_heap.specs.Heap.{entries_of}
-use Rattle.bril_interpreter.specs.Frames.{LocalsView, frame_of}
+use Rattle.bril_interpreter.specs.Frames.{LocalsView, variable_count, frame_of}
 use Rattle.bril_interpreter.specs.Interpreter.{InterpView}
 use Rattle.bril_interpreter.proofs.Held.{new_frame-held, new_frame-kept}
 use Rattle.bril_interpreter.proofs.Known.{code_few}
+use Rattle.bril_interpreter.proofs.Tables.{blank_found}
 use Rattle.bril_interpreter.proofs.interp.Interp.new_frame.Goals as goal
 
--- as many values as arguments
-renewed : (n : ℕ) (value : ℕ → Value) (args : List ℕ) (vars : List (Option Value)) → vars ≡ map (λ (v : Value). Some v) (map value args) ++ replicate (n - length args) None
-    → vars ≡ map (λ (v : Value). Some v) (map value args) ++ replicate (n - length (map value args)) None
-renewed n value args vars e = e ∙ ap (λ k. map (λ (v : Value). Some v) (map value args) ++ replicate (n - k) None) (sym (length-map args value))
+-- empty entries
+abbrev empty : ℕ → List (Option Value)
+empty n = replicate n None
+
+empty-behind : (k n : ℕ) → drop k (empty n) ≡ empty (n - k)
+empty-behind zero n = ap empty (let same : n ≡ n - 0 = omega arith in same)
+empty-behind (suc k) zero = ap empty (let same : 0 ≡ 0 - suc k = omega arith in same)
+empty-behind (suc k) (suc n) = empty-behind k n ∙ ap empty (let same : n - k ≡ suc n - suc k = omega arith in same)
+
+-- the arguments, and empty entries for the other variables
+renewed : (n : ℕ) (value : ℕ → Value) (args : List ℕ) (vars blank : List (Option Value)) → blank ≡ empty n → vars ≡ map (λ (v : Value). Some v) (map value args) ++ drop (length args) blank
+    → vars ≡ map (λ (v : Value). Some v) (map value args) ++ empty (n - length (map value args))
+renewed n value args vars blank is e =
+    let held : List (Option Value) = map (λ (v : Value). Some v) (map value args) in
+    e
+    ∙ ap (λ entries. held ++ drop (length args) entries) is
+    ∙ ap (λ entries. held ++ entries) (empty-behind (length args) n)
+    ∙ ap (λ k. held ++ empty (n - k)) (sym (length-map args value))
+
+shadowed : (n : ℕ) (shadows blank : List (Option Value)) → blank ≡ empty n → shadows ≡ blank ++ None ∷ [] → shadows ≡ empty (n + 1)
+shadowed n shadows blank is e = e ∙ ap (λ (entries : List (Option Value)). entries ++ None ∷ []) is ∙ replicate_more n None
 
 pub returns-clause-frame : goal.returns-clause-frame
 returns-clause-frame c =
     let i = c.args.self.now in
+    let p = c.self.inside.checked.now.prog in
+    let n = variable_count p c.args.callee in
+    let blank : c.blank_of-blank.result.now ≡ empty n = (rw c.as_slice.ensures.value at c.blank_of-blank.ensures) ∙ blank_found p c.self.inside.tables.items c.args.callee c.self.invariant.functions in
     let locations : c.locations.result.now ≡ i.newest.locations = c.locations.ensures ∙ ap (λ (i : InterpView). i.newest.locations) c.self.view_is in
     let value : ℕ → Value = read (entries_of c.locations.result.now.vars) in
     ap frame_of c.start.ensures
-    ∙ new_frame-held i.checked.prog i.limits c.args.callee (map value c.args.args.now) c.variables_of-variables.result c.renew.new.self (renewed c.variables_of-variables.result value c.args.args.now c.renew.new.self.vars c.in_ok-renew.ensures.vars) c.in_ok-renew.ensures.shadows
+    ∙ new_frame-held i.checked.prog i.limits c.args.callee (map value c.args.args.now) n c.renew.new.self
+    (renewed n value c.args.args.now c.renew.new.self.vars c.blank_of-blank.result.now blank c.in_ok-renew.ensures.vars)
+    (shadowed n c.renew.new.self.shadows c.blank_of-blank.result.now blank c.in_ok-renew.ensures.shadows)
     ∙ ap (λ (locations : LocalsView). new_frame c.args.callee (map (read (entries_of locations.vars)) c.args.args.now)) locations
 
 pub returns-clause-form : goal.returns-clause-form
 returns-clause-form c =
-    let p : c.prog.result.now ≡ c.args.self.now.checked.prog = c.prog.ensures.value ∙ ap (λ (i : InterpView). i.checked.prog) c.self.view_is in
+    let p = c.self.inside.checked.now.prog in
+    let n = variable_count p c.args.callee in
+    let same : c.prog.result.now ≡ p = c.prog.ensures.value in
+    let blank : c.blank_of-blank.result.now ≡ empty n = (rw c.as_slice.ensures.value at c.blank_of-blank.ensures) ∙ blank_found p c.self.inside.tables.items c.args.callee c.self.invariant.functions in
     let value : ℕ → Value = read (entries_of c.locations.result.now.vars) in
-    let vars = renewed c.variables_of-variables.result value c.args.args.now c.renew.new.self.vars c.in_ok-renew.ensures.vars in
-    rw (c.start.ensures, ← p)
-    (new_frame-kept c.prog.result.now c.args.callee (map value c.args.args.now) c.renew.new.self
-    (rw c.variables_of-variables.ensures at vars)
-    (rw c.variables_of-variables.ensures at c.in_ok-renew.ensures.shadows)
-    (code_few c.prog.result.now c.prog.ensures.counted c.args.callee))
+    rw (c.start.ensures, ← c.self.view_is)
+    (new_frame-kept p c.args.callee (map value c.args.args.now) c.renew.new.self
+    (renewed n value c.args.args.now c.renew.new.self.vars c.blank_of-blank.result.now blank c.in_ok-renew.ensures.vars)
+    (shadowed n c.renew.new.self.shadows c.blank_of-blank.result.now blank c.in_ok-renew.ensures.shadows)
+    (code_few p (rw same at c.prog.ensures.counted) c.args.callee))
