@@ -16,14 +16,15 @@ use Rattle.shadow_place.specs.declared.placed.Placed.{Placed}
 use Rattle.slot_code.specs.declared.slots.Slots.{Slots}
 use Rattle.slot_code.specs.Lowered.{IsLowered, IsLoweredFunction, lowered_item}
 use Rattle.rv64_emit_laws.specs.layout.Homes.{FunctionHomes}
-use Rattle.rv64_emit_laws.specs.layout.Image.{joined, start_at, head_words, function_words_at, image_words, largest_frame, IsImageOf}
+use Rattle.rv64_emit_laws.specs.layout.Image.{joined, start_at, head_words, main_moves, function_words_at, image_words, largest_frame, IsImageOf}
 use Rattle.rv64_emit_laws.specs.layout.Laid.{HaveHomes}
 use Rattle.rv64_emit_laws.proofs.lemmas.layout.Bounding.{image_bounded, function_made}
 use Rattle.rv64_emit_laws.proofs.lemmas.layout.Fitting.{all_reached, item_fits, largest_is}
 use Rattle.rv64_emit_laws.proofs.lemmas.layout.Guarding.{guards_counted}
-use Rattle.rv64_emit_laws.proofs.lemmas.layout.Laid.{functions_length}
+use Rattle.rv64_emit_laws.proofs.lemmas.layout.Laid.{functions_length, head_length}
 use Rattle.rv64_emit_laws.specs.Homes.{AllHomesServe}
 use Rattle.rv64_emit_laws.proofs.Homes.{have_homes}
+use Rattle.rv64_emit_laws.proofs.Sources.{main_inside}
 use Rattle.rv64_emit_laws.proofs.Theorem.{implements, implements_at}
 use Rattle.rv64_emit.specs.Placed.{placed_homes}
 use Rattle.rv64_emit.specs.PlacedImage.{ImplementsPlaced}
@@ -40,13 +41,13 @@ pub record IsEmitted (p : Prog) (limits : Limits) (image : Image) : Type 0 where
 
 module _ (marked : Bool) (p : Prog) (slots : Slots) (limits : Limits) (accepted : IsAccepted p) (literals : AreLiteralsInRange p) (is : IsLowered p slots) (within : IsWithin p limits) (lives : List Live) (placed : Placed) (by : IsPlacedBy p slots lives placed) where
   abbrev homes : ℕ → FunctionHomes
-  homes = placed_homes marked placed lives
+  homes = placed_homes marked slots placed lives
 
   serve : AllHomesServe homes p slots
-  serve = all_serve marked p slots lives placed by
+  serve = all_serve marked p slots lives placed by is
 
   have : HaveHomes homes slots
-  have = have_homes p slots homes is serve
+  have = have_homes p slots homes accepted is serve
 
   few : start_at homes slots (length slots.funcs) ≤ 250000
   few = let code = within.code in let bounded = image_bounded homes p slots is have in omega arith
@@ -54,6 +55,7 @@ module _ (marked : Bool) (p : Prog) (slots : Slots) (limits : Limits) (accepted 
   pub slots_fit : IsCounted p → SlotsFit homes slots
   slots_fit counted = record {
     functions = let few_functions = counted.functions in let lengths = zip-long IsLoweredFunction p.funcs slots.funcs is.funcs in omega arith;
+    main = main_inside p slots is;
     points = λ f g at. (
         let made = function_made p slots is f g at in
         let same : length g.code ≡ length made.0.code = ap length made.2.code ∙ length-map made.0.code (lowered_item made.0) in
@@ -72,9 +74,10 @@ module _ (marked : Bool) (p : Prog) (slots : Slots) (limits : Limits) (accepted 
   -- the image has few words, and no more guards
   words_are : (image : Image) → IsImageOf homes slots limits image → length image.words ≡ start_at homes slots (length slots.funcs)
   words_are image laid =
-      let head = head_words limits (start_at homes slots slots.main) in
+      let main = start_at homes slots slots.main in
+      let head = head_words limits (main_moves homes slots) main in
       let functions = joined (function_words_at homes slots) (length slots.funcs) in
-      omega (arith, ap length laid.words, length-map (image_words homes slots limits) encoded, length-append head functions, functions_length homes slots (length slots.funcs))
+      omega (arith, ap length laid.words, length-map (image_words homes slots limits) encoded, length-append head functions, head_length limits (main_moves homes slots) main, functions_length homes slots (length slots.funcs))
 
   words_few : (image : Image) → IsImageOf homes slots limits image → length image.words ≤ 250000
   words_few image laid = omega (arith, few, words_are image laid)
@@ -94,7 +97,7 @@ module _ (marked : Bool) (p : Prog) (slots : Slots) (limits : Limits) (accepted 
       lowered = is;
       placed = placed;
       are = by.are;
-      implements = subst (λ h. ImplementsAt h image p limits) (homes_placed marked placed lives) (implements_at p homes slots limits image accepted literals is within serve laid);
+      implements = subst (λ h. ImplementsAt h image p limits) (homes_placed marked slots placed lives) (implements_at p homes slots limits image accepted literals is within serve laid);
       registers = few_in_registers marked p slots lives placed by is;
     };
     words = words_few image laid;

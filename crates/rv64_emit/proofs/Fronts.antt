@@ -37,12 +37,12 @@ named_within : (words : ℕ) (home : Home) → IsHomeWithin words home → IsHom
 named_within words (Reg r) h = h
 named_within words (Frame o) h = tt
 
-module _ (p : Prog) (limits : Limits) (accepted : IsAccepted p) (literals : AreLiteralsInRange p) (front : Front) (is : IsFrontOf p limits front) (marked : Bool) (homes : ℕ → FunctionHomes) (same : homes ≡ placed_homes marked front.placed front.lives) where
+module _ (p : Prog) (limits : Limits) (accepted : IsAccepted p) (literals : AreLiteralsInRange p) (front : Front) (is : IsFrontOf p limits front) (marked : Bool) (homes : ℕ → FunctionHomes) (same : homes ≡ placed_homes marked front.slots front.placed front.lives) where
   by : IsPlacedBy p front.slots front.lives front.placed
   by = record { are = is.placed; tells = is.tells }
 
   serve : AllHomesServe homes p front.slots
-  serve = subst (λ h. AllHomesServe h p front.slots) (sym same) (all_serve marked p front.slots front.lives front.placed by)
+  serve = subst (λ h. AllHomesServe h p front.slots) (sym same) (all_serve marked p front.slots front.lives front.placed by is.lowered)
 
   pub front_fits : IsCounted p → SlotsFit homes front.slots
   front_fits counted = subst (λ h. SlotsFit h front.slots) (sym same) (slots_fit marked p front.slots limits accepted literals is.lowered is.within front.lives front.placed by counted)

@@ -5,6 +5,7 @@ pub mod Frames
 pub mod Fronts
 pub mod LiveVariables
 pub mod Moving
+pub mod PassingParts
 pub mod Placed
 pub mod PointHomes
 pub mod Pointing

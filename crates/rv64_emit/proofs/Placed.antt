@@ -15,10 +15,11 @@ use Rattle.slot_code.specs.declared.slots.SlotFunction.{SlotFunction}
 use Rattle.slot_code.specs.declared.slots.Slots.{Slots}
 use Rattle.rv64_emit_laws.specs.layout.Fits.{ItemFits}
 use Rattle.rv64_emit_laws.specs.layout.Homes.{FunctionHomes}
-use Rattle.rv64_emit_laws.specs.layout.Image.{joined, opening_words, words_before, function_size, function_size_or_none, start_at, entry_at, item_words_or_none, item_words_at, function_words_or_none, function_words_at, guard_or_none, guard_at}
-use Rattle.rv64_emit_laws.specs.layout.Items.{item_size, item_words, leave_words}
+use Rattle.rv64_emit_laws.specs.layout.Image.{joined, first_start, words_before, function_size, function_size_or_none, start_at, entry_at, item_words_or_none, item_words_at, function_words_or_none, function_words_at, guard_or_none, guard_at}
+use Rattle.rv64_emit_laws.specs.layout.Items.{item_size, item_words, keep_way_words, leave_size, leave_words}
 use Rattle.rv64_emit_laws.proofs.lemmas.layout.Joining.{below_or, joined-more}
-use Rattle.rv64_emit_laws.proofs.lemmas.layout.Laid.{items_length, functions_length, opening_length}
+use Rattle.rv64_emit_laws.proofs.lemmas.layout.Laid.{items_length, functions_length}
+use Rattle.rv64_emit_laws.proofs.lemmas.layout.Lengths.{keep_way_length}
 use Rattle.rv64_emit_laws.proofs.lemmas.layout.Placing.{words_next, words_at_end, entry_is, starts_rise, starts_most, function_inside, entries_most}
 use Rattle.rv64_emit.specs.Moved.{AreMovableAt}
 use Rattle.rv64_emit.specs.Tables.{table_at, start_table, entry_table, entry_tables, item_count, guard_with, SlotsFit}
@@ -83,7 +84,7 @@ module _ (homes : ℕ → FunctionHomes) (slots : Slots) where
   entries_few fit f g is entries are k = let few = fit.few in omega (arith, entries_are f g is entries are k, entries_most homes slots f k, few)
 
   -- behind the words that leave a function begins the next one
-  pub next_start : (f : ℕ) → f < length slots.funcs → (entries : List ℕ) → entries ≡ entry_table homes slots f → (0 < length entries) × (table_at entries (length entries - 1) + 4 ≡ start_at homes slots (f + 1))
+  pub next_start : (f : ℕ) → f < length slots.funcs → (entries : List ℕ) → entries ≡ entry_table homes slots f → (0 < length entries) × (table_at entries (length entries - 1) + leave_size (homes f) ≡ start_at homes slots (f + 1))
   next_start f inside entries are =
       let g = get_inside slots.funcs f inside in
       let long : length entries ≡ length g.0.code + 1 = ap length (table_is f g.0 g.1 entries are) ∙ length-map-range_with_len (entry_at homes slots f) 0 (length g.0.code + 1) in
@@ -172,21 +173,21 @@ module _ (homes : ℕ → FunctionHomes) (slots : Slots) where
   -- ---- the words of functions
 
   -- where the words of its items begin
-  pub opening_put : (f : ℕ) (g : SlotFunction) (own : FunctionHomes) → slice_get slots.funcs f ≡ Some g → own ≡ homes f → (first begun : List ℕ) → length first ≡ start_at homes slots f → begun ≡ first ++ map encoded (opening_words own g) → length begun ≡ entry_at homes slots f 0
+  pub opening_put : (f : ℕ) (g : SlotFunction) (own : FunctionHomes) → slice_get slots.funcs f ≡ Some g → own ≡ homes f → (first begun : List ℕ) → length first ≡ start_at homes slots f → begun ≡ first ++ map encoded (keep_way_words own) → length begun ≡ entry_at homes slots f 0
   opening_put f g own is own_is first begun before put =
-      let words = opening_words (homes f) g in
-      let same : begun ≡ first ++ map encoded words = put ∙ ap (λ h. first ++ map encoded (opening_words h g)) own_is in
-      omega (arith, ap length same, length-append first (map encoded words), length-map words encoded, opening_length (homes f) g, entry_is homes slots f g 0 is)
+      let words = keep_way_words (homes f) in
+      let same : begun ≡ first ++ map encoded words = put ∙ ap (λ h. first ++ map encoded (keep_way_words h)) own_is in
+      omega (arith, ap length same, length-append first (map encoded words), length-map words encoded, keep_way_length (homes f), entry_is homes slots f g 0 is)
 
-  pub function_put : (f : ℕ) (g : SlotFunction) (own : FunctionHomes) → slice_get slots.funcs f ≡ Some g → own ≡ homes f → (first begun items left : List ℕ) → begun ≡ first ++ map encoded (opening_words own g) → items ≡ begun ++ map encoded (joined (item_words_at homes slots f g) (length g.code)) →
-      left ≡ items ++ map encoded leave_words → left ≡ first ++ map encoded (function_words_at homes slots f)
+  pub function_put : (f : ℕ) (g : SlotFunction) (own : FunctionHomes) → slice_get slots.funcs f ≡ Some g → own ≡ homes f → (first begun items left : List ℕ) → begun ≡ first ++ map encoded (keep_way_words own) → items ≡ begun ++ map encoded (joined (item_words_at homes slots f g) (length g.code)) →
+      left ≡ items ++ map encoded (leave_words own) → left ≡ first ++ map encoded (function_words_at homes slots f)
   function_put f g own is own_is first begun items left one two three =
       let words = joined (item_words_at homes slots f g) (length g.code) in
-      put_then first begun left (opening_words own g) (words ++ leave_words) one (put_then begun items left words leave_words two three)
-      ∙ ap (λ h. first ++ map encoded (opening_words h g ++ (words ++ leave_words))) own_is ∙ ap (λ o. first ++ map encoded (function_words_or_none homes slots f o)) (sym is)
+      put_then first begun left (keep_way_words own) (words ++ leave_words own) one (put_then begun items left words (leave_words own) two three)
+      ∙ ap (λ h. first ++ map encoded (keep_way_words h ++ (words ++ leave_words h))) own_is ∙ ap (λ o. first ++ map encoded (function_words_or_none homes slots f o)) (sym is)
 
   -- where the words of the next function begin
-  pub function_here : (first code : List ℕ) (f : ℕ) → length first ≡ 6 → code ≡ first ++ map encoded (joined (function_words_at homes slots) f) → length code ≡ start_at homes slots f
+  pub function_here : (first code : List ℕ) (f : ℕ) → length first ≡ first_start homes slots → code ≡ first ++ map encoded (joined (function_words_at homes slots) f) → length code ≡ start_at homes slots f
   function_here first code f before so_far =
       let words = joined (function_words_at homes slots) f in
       omega (arith, ap length so_far, length-append first (map encoded words), length-map words encoded, functions_length homes slots f)

@@ -1,13 +1,14 @@
 -- Homes of a placement serve.
-use Rattle.std.proofs.Common.{◌≡◌, ℕ, ◌<◌, Bool, true, List, Some, sym, ap, ◌∙◌, subst, arith}
+use Rattle.std.proofs.Common.{◌≡◌, ℕ, ◌<◌, Bool, true, cond, List, Option, Some, None, refl, sym, ap, ◌∙◌, subst, arith}
 use Rattle.std.specs.Prelude.{◌↔◌, slice_get}
 use Rattle.std.specs.List.{AllZip}
+use Rattle.std.proofs.lemmas.Bool.{false≢true}
 use Rattle.std.proofs.lemmas.Option.{slice_get_within}
 use Rattle.bril_tree.specs.declared.numbered_function.Func.{Func}
 use Rattle.bril_tree.specs.declared.program.Prog.{Prog}
 use Rattle.bril_tree.specs.Live.{IsLive}
 use Rattle.bril_tree.specs.Operand.{Location}
-use Rattle.bril_tree.proofs.Elements.{get_inside, zip-get, zip-long}
+use Rattle.bril_tree.proofs.Elements.{get_in, get_inside, passes_in, past_end, zip-get, zip-long}
 use Rattle.live_sets.specs.declared.live.Live.{Live}
 use Rattle.live_sets.specs.Liveness.{TellsLive, is_live}
 use Rattle.placement_laws.specs.Homes.{IsHomeOf, slot_of}
@@ -21,12 +22,15 @@ use Rattle.rv64_emit_laws.specs.layout.Laid.{AreHomes}
 use Rattle.shadow_place.specs.declared.placed.Placed.{Placed}
 use Rattle.shadow_place.specs.Placement.{TellsLiveIn}
 use Rattle.shadow_place.specs.Tables.{home_in, is_saved_in}
+use Rattle.slot_code.specs.declared.item.Slot.TheVariants.{Variable}
+use Rattle.slot_code.specs.Flow.{slot_location}
+use Rattle.slot_code.specs.declared.item.SlotItem.TheVariants.{Call}
 use Rattle.slot_code.specs.declared.slots.SlotFunction.{SlotFunction}
 use Rattle.slot_code.specs.declared.slots.Slots.{Slots}
 use Rattle.slot_code.specs.Lowered.{IsLowered, IsLoweredFunction}
 use Rattle.slot_code.proofs.Places.{slots_are_numbered}
 use Rattle.rv64_emit.specs.Moved.{AreRegistersNear}
-use Rattle.rv64_emit.specs.Placed.{is_live_if, placed_homes}
+use Rattle.rv64_emit.specs.Placed.{calls_none, is_leaf_if, is_live_if, placed_homes}
 use Rattle.rv64_emit.specs.PlacedImage.{AreFewInRegisters, ArePlaced}
 
 -- what is known of a placement
@@ -39,7 +43,7 @@ module _ (marked : Bool) (p : Prog) (slots : Slots) (lives : List Live) (placed 
 
   module _ (k : ℕ) (f : Func) (there : slice_get p.funcs k ≡ Some f) where
     abbrev own : FunctionHomes
-    own = placed_homes marked placed lives k
+    own = placed_homes marked slots placed lives k
 
     homes_same : home_in placed k ≡ home_at own
     homes_same = λ i x. ap (home_in placed k) (sym (location_back x)) i
@@ -70,19 +74,33 @@ module _ (marked : Bool) (p : Prog) (slots : Slots) (lives : List Live) (placed 
       own = λ x in_g. subst (IsHomeOf g x) (ap (home_in placed k) (sym (location_back x))) (is.are.own k g x is_g in_g);
       live = tells_live;
       registers = λ point x y live_x live_y register same. is.are.live k f there point x y live_x live_y (ap (home_in placed k) (sym (location_back x)) ∙ (same ∙ ap (home_in placed k) (location_back y)));
+      leaf = λ told point dest function args at. false≢true (passes_in calls_none g.code (Call dest function args) (sym (ap is_leaf_if is_g) ∙ told) (get_in g.code point (Call dest function args) at));
     }
 
   -- ---- a program
 
-  pub all_serve : AllHomesServe (placed_homes marked placed lives) p slots
-  all_serve k f g there is_g = serves k f there g is_g
+  pub all_serve : IsLowered p slots → AllHomesServe (placed_homes marked slots placed lives) p slots
+  all_serve lowered = record {
+    each = λ k f g there is_g. serves k f there g is_g;
+    given = λ f function k. refl;
+    absent = λ f function k none. absent function k none (slice_get lives function) refl;
+  }
+    where
+      absent : (function k : ℕ) → slice_get slots.funcs function ≡ None → (o : Option Live) → slice_get lives function ≡ o → (placed_homes marked slots placed lives 0).given function k ≡ None
+      absent function k none None e = ap (λ o. cond (is_live_if o 0 (Variable k)) (Some (home_in placed function (slot_location (Variable k)))) None) e
+      absent function k none (Some live) e =
+          let inside = slice_get_within lives function live e in
+          let past = past_end slots.funcs function none in
+          let long = zip-long TellsLiveIn p.funcs lives is.tells in
+          let lengths = zip-long IsLoweredFunction p.funcs slots.funcs lowered.funcs in
+          absurd (omega arith)
 
   pub few_in_registers : IsLowered p slots → AreFewInRegisters (home_in placed) p
   few_in_registers lowered k f x there few location = let g = lowered_at p slots lowered k f there in is.are.registers k f g.function x there g.there few (slot_in f g.function g.is x location)
 
 -- the homes of slots are those of their locations
-pub homes_placed : (marked : Bool) (placed : Placed) (lives : List Live) → homes_of (placed_homes marked placed lives) ≡ home_in placed
-homes_placed marked placed lives = λ i k x. home_in placed k (location_back x i)
+pub homes_placed : (marked : Bool) (slots : Slots) (placed : Placed) (lives : List Live) → homes_of (placed_homes marked slots placed lives) ≡ home_in placed
+homes_placed marked slots placed lives = λ i k x. home_in placed k (location_back x i)
 
 -- slots in registers are among the first ones
 pub registers_near : (f : Func) (g : SlotFunction) → IsLoweredFunction f g → (homes : FunctionHomes) → AreHomes g homes → AreRegistersNear homes g

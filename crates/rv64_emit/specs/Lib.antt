@@ -2,6 +2,7 @@ pub mod Bounds
 pub mod Front
 pub mod LiveVariables
 pub mod Moved
+pub mod PassingParts
 pub mod Placed
 pub mod PlacedImage
 pub mod PointLists

@@ -41,10 +41,11 @@ guard_with homes entry f g point (Guard condition abort_to) =
     record { word = entry + guard_front_size homes g point condition abort_to; func = f; item = point } ∷ []
 guard_with homes entry f g point _ = []
 
--- The image of code over slots can be made by these homes: functions and points have numbers of 32 bits, slots can be moved, each
+-- The image of code over slots can be made by these homes: functions and points have numbers of 32 bits, `main` is there, slots can be moved, each
 -- item fits, and there are at most 250,000 words.
 pub record SlotsFit (homes : ℕ → FunctionHomes) (slots : Slots) : Type 0 where
   pub functions : length slots.funcs < 2 ^ 32
+  pub main : slots.main < length slots.funcs
   pub points : (f : ℕ) (g : SlotFunction) → slice_get slots.funcs f ≡ Some g → length g.code < 2 ^ 32
   pub movable : (f : ℕ) (g : SlotFunction) → slice_get slots.funcs f ≡ Some g → AreMovable (homes f) g
   pub items : (f : ℕ) (g : SlotFunction) (point : ℕ) (item : SlotItem) → slice_get slots.funcs f ≡ Some g → slice_get g.code point ≡ Some item →

@@ -3,8 +3,8 @@
 ghost use Rattle.std.specs.Prelude.{◌≡◌, ◌+◌, ◌*◌, ◌^◌, ◌<◌, length, suc, take};
 ghost use Rattle.bril_tree.specs.Value as values;
 ghost use Rattle.rv64_emit_laws.specs.layout.Homes as homes;
-ghost use Rattle.rv64_emit_laws.specs.layout.Items as items;
 ghost use Rattle.rv64_emit_laws.specs.layout.Fits.{frame_reach};
+ghost use Rattle.rv64_words_laws.specs.sequences.Sequences as sequences;
 
 use bril_tree::value::Value;
 use slot_code::{Slot, SlotFunction};
@@ -71,8 +71,24 @@ pub fn near_slots(func: &SlotFunction) -> &[Slot]
 pub fn argument_word(func: &SlotFunction, number: usize) -> u64
     requires frame { func.now.words < frame_reach }
     requires number { number < 2 ^ 27 }
-    ensures value { result ≡ items.argument_word func.now number }
+    ensures value { result ≡ homes.argument_word func.now number }
     ensures few { result < 2 ^ 28 }
 {
     func.words + (2 + number as u64)
+}
+
+/// By how many bytes register 2 grows where a frame is made above that of a function.
+pub fn bytes_up(func: &SlotFunction) -> u64
+    requires { func.now.words < frame_reach }
+    ensures { result ≡ sequences.bytes_up func.now.words }
+{
+    8 * func.words
+}
+
+/// And where the frame of the function is the newest one again, modulo 2^64.
+pub fn bytes_down(func: &SlotFunction) -> u64
+    requires { func.now.words < frame_reach }
+    ensures { result ≡ sequences.bytes_down func.now.words }
+{
+    0u64.wrapping_sub(8 * func.words)
 }

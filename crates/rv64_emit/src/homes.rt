@@ -1,9 +1,11 @@
-// Where the slots of a program's functions are, which of them speculations keep, and which are live; and whether items are marked.
+// Where the slots of a program's functions are, which of them speculations keep, and which are live; which functions are leaves, and
+// whether items are marked.
 
-ghost use Rattle.std.specs.Prelude.{◌≡◌};
+ghost use Rattle.std.specs.Prelude.{◌≡◌, slice_get};
+ghost use Rattle.std.specs.List.{list_all};
 ghost use Rattle.bril_tree.specs.Place.{location_of};
 ghost use Rattle.live_sets.specs.Liveness.{is_live};
-ghost use Rattle.rv64_emit.specs.Placed.{all_homes, homes_in, placed_homes};
+ghost use Rattle.rv64_emit.specs.Placed.{all_homes, calls_none, homes_in, is_leaf_if, is_live_if, placed_homes};
 ghost use Rattle.rv64_emit_laws.specs.layout.Homes as homes;
 ghost use Rattle.slot_code.specs.Flow.{slot_location};
 
@@ -11,13 +13,14 @@ use bril_tree::home::Home;
 use bril_tree::place::Place;
 use live_sets::Live;
 use shadow_place::Placed;
-use slot_code::Slot;
+use slot_code::{Slot, SlotFunction, SlotItem, Slots};
 
-/// The homes of all functions, by a placement, and by what is live in each function. Where items are marked, each but a label and
-/// `nop` has a word.
+/// The homes of all functions of code over slots, by a placement, and by what is live in each function. Where items are marked, each
+/// but a label and `nop` has a word.
 #[derive(Clone, Copy, Drop)]
 pub struct ProgramHomes<'a> {
     marked: bool,
+    slots: &'a Slots,
     placed: &'a Placed,
     lives: &'a [Live],
 }
@@ -26,6 +29,7 @@ pub struct ProgramHomes<'a> {
 #[derive(Clone, Copy, Drop)]
 pub struct SlotHomes<'a> {
     marked: bool,
+    leaf: bool,
     placed: &'a Placed,
     lives: &'a [Live],
     function: u32,
@@ -51,24 +55,69 @@ fn is_live_slot(live: &Live, point: u32, slot: Slot) -> bool
     }
 }
 
+// The same in a function, by the tables of all.
+fn is_live_in(lives: &[Live], function: u32, point: u32, slot: Slot) -> bool
+    ensures { result ≡ is_live_if (slice_get lives.now function) point slot }
+{
+    match lives.get(function as usize) {
+        None => false,
+        Some(live) => is_live_slot(live, point, slot),
+    }
+}
+
+// Whether an item calls no function.
+fn calls_none(item: &SlotItem) -> bool
+    ensures { result ≡ calls_none item.now }
+{
+    match item {
+        SlotItem::Call { .. } => false,
+        _ => true,
+    }
+}
+
+// Whether none of a function's items calls one.
+fn is_leaf(func: &SlotFunction) -> bool
+    ensures { result ≡ list_all calls_none func.now.code }
+{
+    func.code.as_slice().iter().all(|item| calls_none(item))
+}
+
+// Whether the function of a number is there, and is a leaf.
+fn is_leaf_at(slots: &Slots, number: u32) -> bool
+    ensures { result ≡ is_leaf_if (slice_get slots.now.funcs number) }
+{
+    match slots.funcs.as_slice().get(number as usize) {
+        None => false,
+        Some(func) => is_leaf(func),
+    }
+}
+
 impl<'a> ProgramHomes<'a> {
-    /// The homes of a placement, and of the tables of what is live in each function, in order, with items marked or not.
-    pub fn of(marked: bool, placed: &'a Placed, lives: &'a [Live]) -> ProgramHomes<'a>
-        ensures { all_homes result ≡ placed_homes marked placed.now lives.now }
+    /// The homes of a placement of code over slots, and of the tables of what is live in each function, in order, with items marked or
+    /// not.
+    pub fn of(
+        marked: bool,
+        slots: &'a Slots,
+        placed: &'a Placed,
+        lives: &'a [Live],
+    ) -> ProgramHomes<'a>
+        ensures { all_homes result ≡ placed_homes marked slots.now placed.now lives.now }
     {
         ProgramHomes {
             marked,
+            slots,
             placed,
             lives,
         }
     }
 
-    /// Those of a function.
+    /// Those of a function. Takes time in proportion to its items.
     pub fn in_function(&self, function: u32) -> SlotHomes<'a>
         ensures { homes_in result ≡ all_homes self.now function }
     {
         SlotHomes {
             marked: self.marked,
+            leaf: is_leaf_at(self.slots, function),
             placed: self.placed,
             lives: self.lives,
             function,
@@ -82,6 +131,13 @@ impl<'a> SlotHomes<'a> {
         ensures { result ≡ (homes_in self.now).marked }
     {
         self.marked
+    }
+
+    /// Whether the function is a leaf.
+    pub fn is_leaf(&self) -> bool
+        ensures { result ≡ (homes_in self.now).leaf }
+    {
+        self.leaf
     }
 
     /// Where a slot is.
@@ -109,9 +165,17 @@ impl<'a> SlotHomes<'a> {
     pub fn is_live(&self, point: u32, slot: Slot) -> bool
         ensures { result ≡ (homes_in self.now).live point slot }
     {
-        match self.lives.get(self.function as usize) {
-            None => false,
-            Some(live) => is_live_slot(live, point, slot),
+        is_live_in(self.lives, self.function, point, slot)
+    }
+
+    /// Where a function has its argument of a number, from 0, as it begins, if it is live there.
+    pub fn given(&self, function: u32, argument: u32) -> Option<Home>
+        ensures { result ≡ (homes_in self.now).given function argument }
+    {
+        let slot = Slot::Variable(argument);
+        if is_live_in(self.lives, function, 0, slot) {
+            return Some(self.placed.home(function, place_of(slot)));
         }
+        None
     }
 }

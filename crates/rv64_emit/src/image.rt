@@ -1,24 +1,26 @@
 // The image of code over slots.
 
 ghost use Rattle.std.specs.Prelude.{◌≡◌, ◌+◌, ◌*◌, ◌<◌, ◌≤◌, ◌++◌, map, length, OnOk, IfOk};
-ghost use Rattle.rv64_emit.specs.Moved.{AreMovable, AreMovableAt};
+ghost use Rattle.rv64_emit.specs.Moved.{AreMovableAt};
+ghost use Rattle.rv64_emit.specs.SlotMoves.{AreReady, all_moves};
+ghost use Rattle.rv64_words_laws.specs.sequences.Moves.{restore_size};
 ghost use Rattle.rv64_emit.specs.Placed.{all_homes, homes_in};
 ghost use Rattle.rv64_emit.specs.Tables as tables;
 ghost use Rattle.rv64_emit.specs.Tables.{SlotsFit, guard_with};
-ghost use Rattle.rv64_emit_laws.specs.layout.Image.{joined, start_at, head_words, opening_words, function_words_at, function_guards_at, largest_frame, IsImageOf};
+ghost use Rattle.rv64_emit_laws.specs.layout.Image.{joined, start_at, first_start, head_words, function_words_at, function_guards_at, largest_frame, IsImageOf};
 ghost use Rattle.rv64_emit_laws.specs.layout.Items as layout;
 ghost use Rattle.rv64_words.specs.Encoding.{encoded};
 ghost use Rattle.rv64_words.specs.Region.{most_words};
 
-use crate::assembly::{addi, lui, sd};
+use crate::assembly::{addi, lui};
 use crate::homes::{ProgramHomes, SlotHomes};
 use crate::item::put_item;
-use crate::items::leave;
+use crate::items::{put_keep_way, put_leave};
 use crate::moves::Transfer;
-use crate::places::{function_at, place, tables_of};
-use crate::registers::{FRAME, FRAMES_LEFT, LINK};
+use crate::places::{function_at, main_moves_of, place, tables_of};
+use crate::registers::{FRAMES_LEFT, LINK};
 use crate::saves::SlotMoves;
-use crate::sequences::{high_digits, jump, low_digit, number as immediate, program_end, put};
+use crate::sequences::{high_digits, jump, low_digit, program_end, put};
 use crate::sizes::guard_front_size;
 use bril_tree::limits::Limits;
 use bril_tree::sequence::Seq;
@@ -28,34 +30,31 @@ use std::alloc::{AllocError, Global};
 
 // ---- words
 
-// The first words: how many frames may be made beside that of `main`, the call of `main`, and the program's end.
+// The first words: how many frames may be made beside that of `main`, its arguments into registers, its call, and the program's end.
 #[tactic(auto, using(crate::proofs::Appending::put_then))]
-fn put_head(code: &mut Seq<u32>, limits: Limits, main: u32) -> Result<(), AllocError>
-    requires { main ≤ most_words }
-    ensures { OnOk result (code.new ≡ code.old ++ map encoded (head_words limits main)) }
+fn put_head(
+    code: &mut Seq<u32>,
+    limits: Limits,
+    moves: &SlotMoves<'_>,
+    main: u32,
+) -> Result<(), AllocError>
+    requires ready { AreReady moves.now }
+    requires few { 2 + restore_size (all_moves moves.now) ≤ most_words }
+    requires main { main ≤ most_words }
+    ensures { OnOk result (code.new ≡ code.old ++ map encoded (head_words limits (all_moves moves.now) main)) }
 {
     let frames = limits.frames as u64 - 1;
-    let call = [
-        lui(FRAMES_LEFT, high_digits(frames) as u32),
-        addi(FRAMES_LEFT, FRAMES_LEFT, low_digit(frames)),
-        jump(LINK, 2, main),
-    ];
-    put(code, &call)?;
+    let at = 2 + moves.size(Transfer::Restore);
+    put(
+        code,
+        &[
+            lui(FRAMES_LEFT, high_digits(frames) as u32),
+            addi(FRAMES_LEFT, FRAMES_LEFT, low_digit(frames)),
+        ],
+    )?;
+    moves.put(code, Transfer::Restore)?;
+    put(code, &[jump(LINK, at, main)])?;
     put(code, &program_end())
-}
-
-// The words of a function before its items.
-#[tactic(auto, using(crate::proofs::Appending::put_then))]
-fn put_opening(
-    code: &mut Seq<u32>,
-    homes: &SlotHomes<'_>,
-    func: &SlotFunction,
-) -> Result<(), AllocError>
-    requires { AreMovable (homes_in homes.now) func.now }
-    ensures { OnOk result (code.new ≡ code.old ++ map encoded (opening_words (homes_in homes.now) func.now)) }
-{
-    put(code, &[sd(FRAME, LINK, immediate(0))])?;
-    SlotMoves::loaded(homes, func).put(code, Transfer::Restore)
 }
 
 // The words of a function.
@@ -76,11 +75,11 @@ fn put_function(
 {
     let func = function_at(slots, number);
     let own = homes.in_function(number as u32);
-    put_opening(code, &own, func)?;
+    put_keep_way(code, &own)?;
     for (point, item) in func.code.as_slice().iter().enumerate() {
         put_item(code, starts, entries, &own, func, point as u32, item)?;
     }
-    put(code, &leave())?;
+    put_leave(code, &own)?;
     Ok(())
 }
 
@@ -151,7 +150,7 @@ fn put_functions(
     requires fits { SlotsFit (all_homes homes.now) slots.now }
     requires starts { starts.now ≡ tables.start_table (all_homes homes.now) slots.now }
     requires entries { entries.now ≡ tables.entry_tables (all_homes homes.now) slots.now }
-    requires here { length code.old ≡ 6 }
+    requires here { length code.old ≡ first_start (all_homes homes.now) slots.now }
     ensures words { OnOk result (code.new ≡ code.old ++ map encoded (joined (function_words_at (all_homes homes.now) slots.now) (length slots.now.funcs))) }
     ensures guards { OnOk result (guards.new ≡ guards.old ++ joined (function_guards_at (all_homes homes.now) slots.now) (length slots.now.funcs)) }
 {
@@ -177,7 +176,12 @@ pub fn image_of(
     let tables = tables_of(alloc, homes, slots)?;
     let starts = tables.starts.as_slice();
     let mut words = Seq::new(alloc);
-    put_head(&mut words, limits, place(starts, slots.main))?;
+    put_head(
+        &mut words,
+        limits,
+        &main_moves_of(homes, slots),
+        place(starts, slots.main),
+    )?;
     let mut guards = Seq::new(alloc);
     put_functions(
         &mut words,

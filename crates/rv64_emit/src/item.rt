@@ -23,7 +23,8 @@ use crate::saves::SlotMoves;
 use crate::sequences::constant_size_of;
 use crate::sizes::{
     after_call_size, before_call_size, binary_item_size, branch_size_of, copied_size_of,
-    guard_front_size, jump_size_of, mark_size_of, print_size_of, returned_size_of, unary_item_size,
+    guard_front_size, jump_size_of, leave_size_of, mark_size_of, print_size_of, returned_size_of,
+    unary_item_size,
 };
 use bril_tree::sequence::Seq;
 use slot_code::{SlotFunction, SlotItem};
@@ -112,6 +113,7 @@ pub fn put_item(
                 func,
                 point,
                 *dest,
+                *function,
                 place(starts, *function),
                 args.as_slice(),
             )
@@ -203,15 +205,14 @@ pub fn size_of(homes: &SlotHomes<'_>, func: &SlotFunction, point: u32, item: &Sl
             source_size_of(homes.variable(*condition))
                 + branch_size_of(func, point, *then_to, *else_to)
         }
-        SlotItem::Call { dest, args, .. } => before_call_size(
-            homes,
-            func,
-            point,
-            *dest,
-            args.as_slice(),
-        ) + 1
+        SlotItem::Call {
+            dest,
+            function,
+            args,
+        } => before_call_size(homes, func, point, *dest, *function, args.as_slice())
+            + 1
             + after_call_size(homes, func, point, *dest),
-        SlotItem::Return { value } => returned_size_of(homes, *value) + 4,
+        SlotItem::Return { value } => returned_size_of(homes, *value) + leave_size_of(homes),
         SlotItem::Print { args } => print_size_of(homes, args.as_slice()),
         SlotItem::Alloc { dest, count } => fetch_size_of(homes.variable(*count))
             + 2

@@ -1,8 +1,9 @@
 // The words of items at the end of an image.
 
-ghost use Rattle.std.specs.Prelude.{ℕ, true, suc, ◌≤ℤ◌, ◌<ℤ◌, neg_ℤ, ◌≡◌, ◌+◌, ◌-◌, ◌*◌, ◌%◌, ◌^◌, ◌<◌, ◌≤◌, ◌∷◌, [], ◌++◌, map, pos, length, OnOk};
+ghost use Rattle.std.specs.Prelude.{ℕ, Some, true, suc, ◌≤ℤ◌, ◌<ℤ◌, neg_ℤ, ◌≡◌, ◌+◌, ◌-◌, ◌*◌, ◌%◌, ◌^◌, ◌<◌, ◌≤◌, ◌∷◌, [], ◌++◌, map, pos, length, OnOk};
 ghost use Rattle.std.specs.List.{AllByRecursion};
 ghost use Rattle.bril_tree.specs.FunctionForm.{listed};
+ghost use Rattle.bril_tree.specs.declared.home.Home.TheVariants.{Reg};
 ghost use Rattle.bril_tree.specs.Value as values;
 ghost use Rattle.rv64_emit.specs.Moved.{AreMovableAt};
 ghost use Rattle.rv64_emit.specs.Placed.{homes_in};
@@ -10,6 +11,7 @@ ghost use Rattle.rv64_emit.specs.Tables.{table_at};
 ghost use Rattle.rv64_emit_laws.specs.layout.Fits.{IsReached, frame_reach};
 ghost use Rattle.rv64_emit_laws.specs.layout.Homes.{speculate_moves, variable_home};
 ghost use Rattle.rv64_emit_laws.specs.layout.Items as items;
+ghost use Rattle.rv64_emit_laws.specs.layout.Passing.{pass_words};
 ghost use Rattle.rv64_emit_laws.specs.layout.Reach as reach;
 ghost use Rattle.rv64_words_laws.specs.sequences.Moves as moves;
 ghost use Rattle.rv64_words_laws.specs.sequences.Operations as operations;
@@ -20,8 +22,8 @@ ghost use Rattle.rv64_words.specs.Fields.{bits_13};
 ghost use Rattle.rv64_words.specs.Mnemonics as mnemonics;
 ghost use Rattle.rv64_words.specs.Region.{most_words};
 
-use crate::assembly::{addi, branch, jalr, ld};
-use crate::frame::{argument_word, word_of};
+use crate::assembly::{addi, branch, jalr, ld, sd};
+use crate::frame::{bytes_down, bytes_up, word_of};
 use crate::homes::SlotHomes;
 use crate::moves::{
     Transfer, operand_register, put_copy, put_fetch, put_fill, put_operand, put_result, put_source,
@@ -31,12 +33,11 @@ use crate::operations::{
     binary_takes_any_registers, put_binary, put_cell, put_load_cell, put_mark_cell, put_store_cell,
     put_unary, unary_takes_any_register,
 };
+use crate::passing::{Part, put_part};
 use crate::places::place;
 use crate::registers::{ARGUMENT, FIRST, FRAME, FRAMES_LEFT, LINK, SECOND, ZERO};
 use crate::saves::SlotMoves;
-use crate::sequences::{
-    environment_call, fault, jump, number, put, put_constant, put_frame_up, put_store,
-};
+use crate::sequences::{environment_call, fault, jump, number, put, put_constant, put_frame_by};
 use crate::sizes::{
     before_call_size, guard_front_size, is_in_reach, is_next, is_same_home, reaches_over,
 };
@@ -361,33 +362,24 @@ fn put_room(code: &mut Seq<u32>) -> Result<(), AllocError>
     put(code, &[addi(FRAMES_LEFT, FRAMES_LEFT, Immediate::of(-1))])
 }
 
-// An argument into a word of the frame.
+// The arguments to where the function of a number has them.
 #[tactic(auto, using(crate::proofs::Appending::put_then))]
-fn put_argument(code: &mut Seq<u32>, arg: Home, word: u64) -> Result<(), AllocError>
-    requires arg { IsReached arg }
-    requires word { word < 2 ^ 28 }
-    ensures { OnOk result (code.new ≡ code.old ++ map encoded (moves.source_words 5 arg ++ store_words (moves.register_for 5 arg) word)) }
-{
-    put_source(code, FIRST, arg)?;
-    put_store(code, register_for(FIRST, arg), word)
-}
-
-// The arguments into their words of the new frame.
 fn put_arguments(
     code: &mut Seq<u32>,
     homes: &SlotHomes<'_>,
     func: &SlotFunction,
+    function: u32,
     args: &[u32],
 ) -> Result<(), AllocError>
     requires frame { func.now.words < frame_reach }
     requires few { length args.now < frame_reach }
     requires args { AllByRecursion (λ x. IsReached (variable_home (homes_in homes.now) x)) args.now }
-    ensures { OnOk result (code.new ≡ code.old ++ map encoded (items.pass_words (homes_in homes.now) func.now 0 args.now)) }
+    requires given { (k r : ℕ) → (homes_in homes.now).given function k ≡ Some (Reg r) → r < 32 }
+    ensures { OnOk result (code.new ≡ code.old ++ map encoded (pass_words (homes_in homes.now) func.now function args.now)) }
 {
-    for (k, arg) in args.iter().enumerate() {
-        put_argument(code, homes.variable(*arg), argument_word(func, k))?;
-    }
-    Ok(())
+    put_part(code, Part::Stores, homes, func, function, args)?;
+    put_part(code, Part::Copies, homes, func, function, args)?;
+    put_part(code, Part::Loads, homes, func, function, args)
 }
 
 // A function's result into its destination.
@@ -414,15 +406,17 @@ fn put_after_call(
     point: u32,
     dest: Option<u32>,
 ) -> Result<(), AllocError>
+    requires frame { func.now.words < frame_reach }
     requires movable { AreMovableAt (homes_in homes.now) func.now point }
     requires dest { AllByRecursion (λ x. IsReached (variable_home (homes_in homes.now) x)) (listed dest) }
     ensures { OnOk result (code.new ≡ code.old ++ map encoded (items.after_call (homes_in homes.now) func.now point dest)) }
 {
+    put_frame_by(code, bytes_down(func))?;
     SlotMoves::outliving(homes, func, point, dest).put(code, Transfer::Restore)?;
     put_call_result(code, homes, dest)
 }
 
-/// The call at a point, of the function whose first word is `start`.
+/// The call at a point, of the function of a number, whose first word is `start`.
 #[tactic(auto, using(crate::proofs::Appending::put_then))]
 pub fn put_call(
     code: &mut Seq<u32>,
@@ -430,38 +424,64 @@ pub fn put_call(
     func: &SlotFunction,
     point: u32,
     dest: Option<u32>,
+    function: u32,
     start: u32,
     args: &[u32],
 ) -> Result<(), AllocError>
-    requires here { length code.old + items.before_call (homes_in homes.now) func.now point dest args.now ≤ most_words }
+    requires here { length code.old + items.before_call (homes_in homes.now) func.now point dest function args.now ≤ most_words }
     requires start { start ≤ most_words }
     requires frame { func.now.words < frame_reach }
     requires few { length args.now < frame_reach }
     requires movable { AreMovableAt (homes_in homes.now) func.now point }
     requires dest { AllByRecursion (λ x. IsReached (variable_home (homes_in homes.now) x)) (listed dest) }
     requires args { AllByRecursion (λ x. IsReached (variable_home (homes_in homes.now) x)) args.now }
+    requires given { (k r : ℕ) → (homes_in homes.now).given function k ≡ Some (Reg r) → r < 32 }
     ensures { OnOk result (code.new ≡ code.old ++ map encoded
-        (items.call_words (homes_in homes.now) func.now point (length code.old) dest start args.now)) }
+        (items.call_words (homes_in homes.now) func.now point (length code.old) dest function start args.now)) }
 {
-    let from = code.as_slice().len() as u32 + before_call_size(homes, func, point, dest, args);
+    let from = code.as_slice().len() as u32
+        + before_call_size(homes, func, point, dest, function, args);
     put_room(code)?;
     SlotMoves::outliving(homes, func, point, dest).put(code, Transfer::Save)?;
-    put_arguments(code, homes, func, args)?;
-    put_frame_up(code, func.words)?;
+    put_arguments(code, homes, func, function, args)?;
+    put_frame_by(code, bytes_up(func))?;
     put(code, &[jump(LINK, from, start)])?;
     put_after_call(code, homes, func, point, dest)
 }
 
-/// The words that leave a function.
-pub fn leave() -> [Word; 4]
-    ensures { result ≡ items.leave_words }
+/// The way back into its word of the frame, unless the function is a leaf.
+pub fn put_keep_way(code: &mut Seq<u32>, homes: &SlotHomes<'_>) -> Result<(), AllocError>
+    ensures { OnOk result (code.new ≡ code.old ++ map encoded (items.keep_way_words (homes_in homes.now))) }
 {
-    [
-        ld(LINK, FRAME, number(0)),
-        ld(FRAME, FRAME, number(8)),
-        addi(FRAMES_LEFT, FRAMES_LEFT, number(1)),
-        jalr(ZERO, LINK, 0),
-    ]
+    if homes.is_leaf() {
+        return Ok(());
+    }
+    put(code, &[sd(FRAME, LINK, number(0))])
+}
+
+// And from there.
+fn put_take_way(code: &mut Seq<u32>, homes: &SlotHomes<'_>) -> Result<(), AllocError>
+    ensures { OnOk result (code.new ≡ code.old ++ map encoded (items.take_way_words (homes_in homes.now))) }
+{
+    if homes.is_leaf() {
+        return Ok(());
+    }
+    put(code, &[ld(LINK, FRAME, number(0))])
+}
+
+/// The words that leave a function.
+#[tactic(auto, using(crate::proofs::Appending::put_then))]
+pub fn put_leave(code: &mut Seq<u32>, homes: &SlotHomes<'_>) -> Result<(), AllocError>
+    ensures { OnOk result (code.new ≡ code.old ++ map encoded (items.leave_words (homes_in homes.now))) }
+{
+    put_take_way(code, homes)?;
+    put(
+        code,
+        &[
+            addi(FRAMES_LEFT, FRAMES_LEFT, number(1)),
+            jalr(ZERO, LINK, 0),
+        ],
+    )
 }
 
 // The returned value.
@@ -487,10 +507,10 @@ pub fn put_return(
     value: Option<u32>,
 ) -> Result<(), AllocError>
     requires { AllByRecursion (λ x. IsReached (variable_home (homes_in homes.now) x)) (listed value) }
-    ensures { OnOk result (code.new ≡ code.old ++ map encoded (items.returned_words (homes_in homes.now) value ++ items.leave_words)) }
+    ensures { OnOk result (code.new ≡ code.old ++ map encoded (items.returned_words (homes_in homes.now) value ++ items.leave_words (homes_in homes.now))) }
 {
     put_returned(code, homes, value)?;
-    put(code, &leave())
+    put_leave(code, homes)
 }
 
 // ---- output

@@ -10,7 +10,7 @@
 //! 2. Words of the frame (`src/frame.rt`), and the homes of slots, by a placement (`src/homes.rt`, `specs/Placed.antt`).
 //! 3. What homes have into registers and words of the frame, and back (`src/moves.rt`); which slots calls, `speculate` and
 //!    guards move, and these moves (`src/moved.rt`, `src/saves.rt`).
-//! 4. The words of items (`src/item.rt`, `src/items.rt`), how many they have, and where they begin (`src/sizes.rt`,
+//! 4. The words of items (`src/item.rt`, `src/items.rt`, `src/passing.rt`), how many they have, and where they begin (`src/sizes.rt`,
 //!    `src/places.rt`).
 //! 5. The whole image (`src/image.rt`), and the two bounds (`src/bounds.rt`).
 //! 6. The points at which a stepping monitor may stop (`src/points.rt`), with what is live there (`src/live_variables.rt`).
@@ -37,6 +37,7 @@ mod live_variables;
 mod moved;
 mod moves;
 mod operations;
+mod passing;
 mod places;
 mod points;
 mod registers;
@@ -76,7 +77,7 @@ pub fn emit(alloc: Global, prog: &Checked, limits: Limits) -> Result<Image, Emit
 {
     literals_are_in_range(prog.prog());
     let front = front_of(alloc, prog, limits)?;
-    let homes = ProgramHomes::of(false, &front.placed, front.lives.as_slice());
+    let homes = ProgramHomes::of(false, &front.slots, &front.placed, front.lives.as_slice());
     Ok(image_of(alloc, &homes, &front.slots, limits, front.stack)?)
 }
 
@@ -102,7 +103,7 @@ pub fn emit_points(
     literals_are_in_range(prog.prog());
     let front = front_of(alloc, prog, limits)?;
     let lives = front.lives.as_slice();
-    let homes = ProgramHomes::of(true, &front.placed, lives);
+    let homes = ProgramHomes::of(true, &front.slots, &front.placed, lives);
     let image = image_of(alloc, &homes, &front.slots, limits, front.stack)?;
     let points = points_of(alloc, prog.prog(), &homes, &front.slots, lives)?;
     Ok((image, points))

@@ -3,15 +3,16 @@
 ghost use Rattle.std.specs.Prelude.{◌≡◌, ◌+◌, ◌-◌, ◌<◌, ◌≤◌, ℕ, Some, length, slice_get, IfOk};
 ghost use Rattle.rv64_emit.specs.Tables as tables;
 ghost use Rattle.rv64_emit.specs.Tables.{SlotsFit, table_at};
-ghost use Rattle.rv64_emit.specs.Moved.{AreMovable};
-ghost use Rattle.rv64_emit.specs.Placed.{all_homes, homes_in};
-ghost use Rattle.rv64_emit_laws.specs.layout.Image.{opening_size, start_at};
+ghost use Rattle.rv64_emit.specs.SlotMoves.{AreReady, all_moves};
+ghost use Rattle.rv64_emit.specs.Placed.{all_homes};
+ghost use Rattle.rv64_emit_laws.specs.layout.Image.{first_start, main_moves, start_at};
 ghost use Rattle.rv64_words.specs.Region.{most_words};
 
-use crate::homes::{ProgramHomes, SlotHomes};
+use crate::homes::ProgramHomes;
 use crate::item::size_of;
 use crate::moves::Transfer;
 use crate::saves::SlotMoves;
+use crate::sizes::{keep_way_size_of, leave_size_of};
 use bril_tree::sequence::Seq;
 use slot_code::{SlotFunction, Slots};
 use std::alloc::{AllocError, Global};
@@ -44,13 +45,22 @@ pub fn function_at(slots: &Slots, number: usize) -> &SlotFunction
     &slots.funcs.as_slice()[number]
 }
 
-// How many words of a function come before its first item.
-fn opening_size_of(homes: &SlotHomes<'_>, func: &SlotFunction) -> u32
-    requires movable { AreMovable (homes_in homes.now) func.now }
-    requires few { opening_size (homes_in homes.now) func.now ≤ most_words }
-    ensures { result ≡ opening_size (homes_in homes.now) func.now }
+/// What brings the arguments of `main` into registers.
+pub fn main_moves_of<'a>(homes: &ProgramHomes<'a>, slots: &'a Slots) -> SlotMoves<'a>
+    requires { SlotsFit (all_homes homes.now) slots.now }
+    ensures moves { all_moves result ≡ main_moves (all_homes homes.now) slots.now }
+    ensures ready { AreReady result }
 {
-    1 + SlotMoves::loaded(homes, func).size(Transfer::Restore)
+    let own = homes.in_function(slots.main);
+    SlotMoves::loaded(&own, function_at(slots, slots.main as usize))
+}
+
+// Where the first function begins.
+fn first_start_of(homes: &ProgramHomes<'_>, slots: &Slots) -> u32
+    requires { SlotsFit (all_homes homes.now) slots.now }
+    ensures value { result ≡ first_start (all_homes homes.now) slots.now }
+{
+    6 + main_moves_of(homes, slots).size(Transfer::Restore)
 }
 
 // Where each item of a function begins whose first word is `start`, and at last the words that leave the function.
@@ -69,7 +79,7 @@ fn entry_table(
     let func = function_at(slots, number);
     let own = homes.in_function(number as u32);
     let mut entries = Seq::new(alloc);
-    let mut at = start + opening_size_of(&own, func);
+    let mut at = start + keep_way_size_of(&own);
     for (point, item) in func.code.as_slice().iter().enumerate() {
         entries.push(at)?;
         at += size_of(&own, func, point as u32, item);
@@ -98,11 +108,12 @@ pub fn tables_of(
 {
     let mut starts = Seq::new(alloc);
     let mut entries = Seq::new(alloc);
-    let mut at = 6;
+    let mut at = first_start_of(homes, slots);
     for number in 0..slots.funcs.as_slice().len() {
         starts.push(at)?;
         let own = entry_table(alloc, homes, slots, number, at)?;
-        at = last_of(own.as_slice()) + 4;
+        let here = homes.in_function(number as u32);
+        at = last_of(own.as_slice()) + leave_size_of(&here);
         entries.push(own)?;
     }
     starts.push(at)?;

@@ -2,7 +2,7 @@
 
 ghost use Rattle.std.specs.Prelude.{◌≡◌, ◌+◌, ◌*◌, ◌^◌, ◌<◌, ◌≤◌, ◌∷◌, [], ◌++◌, map, pos, OnOk};
 ghost use Rattle.rv64_emit_laws.specs.layout.Items.{environment_words};
-ghost use Rattle.rv64_words_laws.specs.sequences.Sequences.{high_part, low_part, jump_offset, fits_12, fits_32, constant_words, long_constant_words, load_words, store_words, fault_words, frame_up_words, constant_size, load_size, store_size, frame_up_size};
+ghost use Rattle.rv64_words_laws.specs.sequences.Sequences.{high_part, low_part, jump_offset, fits_12, fits_32, constant_words, long_constant_words, load_words, store_words, fault_words, frame_by_words, constant_size, load_size, store_size, frame_by_size};
 ghost use Rattle.rv64_words.specs.Calls.{call_number, fault_number};
 ghost use Rattle.rv64_words.specs.Encoding.{encoded};
 ghost use Rattle.rv64_words.specs.Region.{most_words};
@@ -194,36 +194,27 @@ pub fn put_store(code: &mut Seq<u32>, rs2: u8, word: u64) -> Result<(), AllocErr
 
 // ---- frames
 
-/// How many words make the frame so many words above the frame.
-pub fn frame_up_size_of(words: u64) -> u32
-    ensures value { result ≡ frame_up_size words }
-    ensures few { result ≤ 5 }
+/// How many words make register 2 grow by so many bytes, modulo 2^64.
+pub fn frame_by_size_of(bytes: u64) -> u32
+    ensures value { result ≡ frame_by_size bytes }
+    ensures few { result ≤ 3 }
 {
-    if words < 255 { 2 } else { 5 }
+    if is_of_12_bits(bytes) { 1 } else { 3 }
 }
 
-/// The frame so many words above becomes the frame.
-pub fn put_frame_up(code: &mut Seq<u32>, words: u64) -> Result<(), AllocError>
-    requires { words < 2 ^ 28 }
-    ensures { OnOk result (code.new ≡ code.old ++ map encoded (frame_up_words words)) }
+/// Register 2 grows by so many bytes, a number of 32 bits.
+pub fn put_frame_by(code: &mut Seq<u32>, bytes: u64) -> Result<(), AllocError>
+    ensures { OnOk result (code.new ≡ code.old ++ map encoded (frame_by_words bytes)) }
 {
-    if words < 255 {
-        return put(
-            code,
-            &[
-                sd(FRAME, FRAME, near_offset(words + 1)),
-                addi(FRAME, FRAME, near_offset(words)),
-            ],
-        );
+    if is_of_12_bits(bytes) {
+        return put(code, &[addi(FRAME, FRAME, low_digit(bytes))]);
     }
     put(
         code,
         &[
-            far_offset(SECOND, words),
-            add(SECOND, SECOND, FRAME),
-            addi(SECOND, SECOND, low_digit(8 * words)),
-            sd(SECOND, FRAME, number(8)),
-            addi(FRAME, SECOND, number(0)),
+            lui(SECOND, (high_digits(bytes) % 0x10_0000) as u32),
+            addi(SECOND, SECOND, low_digit(bytes)),
+            add(FRAME, FRAME, SECOND),
         ],
     )
 }

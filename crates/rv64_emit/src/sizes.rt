@@ -1,18 +1,20 @@
 // How many words items have.
 
-ghost use Rattle.std.specs.Prelude.{◌≡◌, ◌+◌, ◌-◌, ◌*◌, ◌^◌, ◌≤◌, ◌<◌, length, take, drop};
-ghost use Rattle.std.specs.List.{list_all};
+ghost use Rattle.std.specs.Prelude.{◌≡◌, ◌+◌, ◌-◌, ◌*◌, ◌^◌, ◌≤◌, ◌<◌, ℕ, Some, length, min, nat_le, take, drop};
+ghost use Rattle.bril_tree.specs.declared.home.Home.TheVariants.{Reg};
+ghost use Rattle.std.specs.List.{AllByRecursion};
 ghost use Rattle.rv64_emit.specs.Moved.{AreMovableAt};
 ghost use Rattle.rv64_emit.specs.Placed.{homes_in};
-ghost use Rattle.rv64_emit_laws.specs.layout.Fits.{frame_reach};
-ghost use Rattle.rv64_emit_laws.specs.layout.Homes.{call_moves, variable_home};
+ghost use Rattle.rv64_emit_laws.specs.layout.Fits.{IsReached, frame_reach};
+ghost use Rattle.rv64_emit_laws.specs.layout.Homes.{variable_home};
 ghost use Rattle.rv64_emit_laws.specs.layout.Items as items;
+ghost use Rattle.rv64_emit_laws.specs.layout.Passing.{pass_size};
 ghost use Rattle.rv64_emit_laws.specs.layout.Reach as reach;
 ghost use Rattle.rv64_words_laws.specs.sequences.Moves as moves;
 ghost use Rattle.rv64_words_laws.specs.sequences.Operations.{unary_size, unary_takes_any};
 ghost use Rattle.rv64_words.specs.Region.{most_words};
 
-use crate::frame::argument_word;
+use crate::frame::{bytes_down, bytes_up};
 use crate::homes::SlotHomes;
 use crate::moves::{
     Transfer, copy_size_of, fetch_size_of, fill_size_of, operand_size_of, result_size_of,
@@ -21,8 +23,9 @@ use crate::moves::{
 use crate::operations::{
     binary_size_of, binary_takes_any_registers, unary_size_of, unary_takes_any_register,
 };
+use crate::passing::{Part, size_of_part};
 use crate::saves::SlotMoves;
-use crate::sequences::{frame_up_size_of, store_size_of};
+use crate::sequences::frame_by_size_of;
 use bril_tree::home::Home;
 use bril_tree::operators::{BinaryOp, UnaryOp};
 use slot_code::{Printed, SlotFunction, SlotItem};
@@ -98,16 +101,37 @@ pub fn binary_item_size(operation: BinaryOp, dest: Home, first: Home, second: Ho
 
 // ---- items that one branch reaches
 
-// Whether an item has at most 26 words.
-fn is_short(item: &SlotItem) -> bool
-    ensures { result ≡ reach.is_short item.now }
+// So many words and six for each of a count, or 1000 where that is more.
+fn with_each(words: usize, count: usize) -> usize
+    requires { words ≤ 64 }
+    ensures { result ≡ min 1000 (words + 6 * count) }
+{
+    (words + 6 * count.min(1000)).min(1000)
+}
+
+// The most words of an item, in a function of so many slots, or 1000 where they are more.
+fn item_counts(slots: usize, item: &SlotItem) -> usize
+    ensures value { result ≡ reach.item_counts slots item.now }
+    ensures few { result ≤ 1000 }
 {
     match item {
-        SlotItem::Call { .. } => false,
-        SlotItem::Print { .. } => false,
-        SlotItem::Speculate => false,
-        SlotItem::Guard { .. } => false,
-        _ => true,
+        SlotItem::Pass => 0,
+        SlotItem::Constant { .. } => 11,
+        SlotItem::Copy { .. } => 6,
+        SlotItem::Unary { operation, .. } => 6 + unary_size_of(*operation) as usize,
+        SlotItem::Binary { operation, .. } => 9 + binary_size_of(*operation) as usize,
+        SlotItem::Jump { .. } => 1,
+        SlotItem::Branch { .. } => 6,
+        SlotItem::Call { args, .. } => with_each(61, args.as_slice().len()),
+        SlotItem::Return { .. } => 6,
+        SlotItem::Print { args } => (2 + 7 * args.as_slice().len().min(1000)).min(1000),
+        SlotItem::Alloc { .. } => 8,
+        SlotItem::Free { .. } => 5,
+        SlotItem::Store { .. } => 23,
+        SlotItem::Load { .. } => 26,
+        SlotItem::Speculate => with_each(1, slots),
+        SlotItem::Commit => 1,
+        SlotItem::Guard { .. } => with_each(6, slots),
     }
 }
 
@@ -128,23 +152,34 @@ fn first_items(items: &[SlotItem], count: u32) -> &[SlotItem]
     &items[..many]
 }
 
-// Whether each of these items is short.
-fn are_short(items: &[SlotItem]) -> bool
-    ensures { result ≡ list_all reach.is_short items.now }
+// Whether these items count at most 988 words.
+fn are_few(slots: usize, items: &[SlotItem]) -> bool
+    ensures { result ≡ nat_le (reach.items_count slots items.now) 988 }
 {
-    items.iter().all(|item| is_short(item))
+    let mut left = 988;
+    for item in items {
+        let counts = item_counts(slots, item);
+        if counts > left {
+            return false;
+        }
+        left -= counts;
+    }
+    true
 }
 
-// Whether at most 38 items are between two, the first of these among them, and each is short.
+// Whether at most 256 items are between two, the first of these among them, which count at most 988 words.
 fn is_close(func: &SlotFunction, from: u32, to: u32) -> bool
     requires { from ≤ to }
     ensures { result ≡ reach.is_close func.now from to }
 {
     let count = to - from;
-    if count > 38 {
+    if count > 256 {
         return false;
     }
-    are_short(first_items(items_from(func, from), count))
+    are_few(
+        func.slots.as_slice().len(),
+        first_items(items_from(func, from), count),
+    )
 }
 
 /// Whether a branch at a point reaches an item.
@@ -206,18 +241,18 @@ pub fn branch_size_of(func: &SlotFunction, point: u32, then_to: u32, else_to: u3
 
 // ---- calls and returns
 
-// How many words pass the arguments of a call.
-fn pass_size_of(homes: &SlotHomes<'_>, func: &SlotFunction, args: &[u32]) -> u32
+// How many words pass the arguments of a call of the function of a number.
+fn pass_size_of(homes: &SlotHomes<'_>, func: &SlotFunction, function: u32, args: &[u32]) -> u32
     requires frame { func.now.words < frame_reach }
     requires few { length args.now < frame_reach }
-    ensures value { result ≡ items.pass_size (homes_in homes.now) func.now 0 args.now }
-    ensures few { result ≤ 6 * length args.now }
+    requires args { AllByRecursion (λ x. IsReached (variable_home (homes_in homes.now) x)) args.now }
+    requires given { (k r : ℕ) → (homes_in homes.now).given function k ≡ Some (Reg r) → r < 32 }
+    ensures value { result ≡ pass_size (homes_in homes.now) func.now function args.now }
+    ensures few { result ≤ 18 * length args.now }
 {
-    let mut size = 0;
-    for (k, arg) in args.iter().enumerate() {
-        size += source_size_of(homes.variable(*arg)) + store_size_of(argument_word(func, k));
-    }
-    size
+    size_of_part(Part::Stores, homes, func, function, args)
+        + size_of_part(Part::Copies, homes, func, function, args)
+        + size_of_part(Part::Loads, homes, func, function, args)
 }
 
 /// How many words of the call at a point come before its jump.
@@ -226,16 +261,19 @@ pub fn before_call_size(
     func: &SlotFunction,
     point: u32,
     dest: Option<u32>,
+    function: u32,
     args: &[u32],
 ) -> u32
     requires frame { func.now.words < frame_reach }
     requires passed { length args.now < frame_reach }
     requires movable { AreMovableAt (homes_in homes.now) func.now point }
-    requires few { items.before_call (homes_in homes.now) func.now point dest args.now ≤ most_words }
-    ensures { result ≡ items.before_call (homes_in homes.now) func.now point dest args.now }
+    requires args { AllByRecursion (λ x. IsReached (variable_home (homes_in homes.now) x)) args.now }
+    requires given { (k r : ℕ) → (homes_in homes.now).given function k ≡ Some (Reg r) → r < 32 }
+    requires few { items.before_call (homes_in homes.now) func.now point dest function args.now ≤ most_words }
+    ensures { result ≡ items.before_call (homes_in homes.now) func.now point dest function args.now }
 {
     let saves = SlotMoves::outliving(homes, func, point, dest).size(Transfer::Save);
-    5 + saves + pass_size_of(homes, func, args) + frame_up_size_of(func.words)
+    5 + saves + pass_size_of(homes, func, function, args) + frame_by_size_of(bytes_up(func))
 }
 
 // How many words store the result of a call.
@@ -256,12 +294,29 @@ pub fn after_call_size(
     point: u32,
     dest: Option<u32>,
 ) -> u32
+    requires frame { func.now.words < frame_reach }
     requires movable { AreMovableAt (homes_in homes.now) func.now point }
-    requires few { moves.restore_size (call_moves (homes_in homes.now) func.now point dest) ≤ most_words }
-    ensures { result ≡ moves.restore_size (call_moves (homes_in homes.now) func.now point dest) + items.call_result_size (homes_in homes.now) dest }
+    requires few { items.after_call_size (homes_in homes.now) func.now point dest ≤ most_words }
+    ensures { result ≡ items.after_call_size (homes_in homes.now) func.now point dest }
 {
     let restores = SlotMoves::outliving(homes, func, point, dest).size(Transfer::Restore);
-    restores + call_result_size_of(homes, dest)
+    frame_by_size_of(bytes_down(func)) + restores + call_result_size_of(homes, dest)
+}
+
+/// How many words keep the way back, or take it.
+pub fn keep_way_size_of(homes: &SlotHomes<'_>) -> u32
+    ensures value { result ≡ items.keep_way_size (homes_in homes.now) }
+    ensures few { result ≤ 1 }
+{
+    if homes.is_leaf() { 0 } else { 1 }
+}
+
+/// How many words leave a function.
+pub fn leave_size_of(homes: &SlotHomes<'_>) -> u32
+    ensures value { result ≡ items.leave_size (homes_in homes.now) }
+    ensures few { result ≤ 3 }
+{
+    keep_way_size_of(homes) + 2
 }
 
 /// How many words bring a returned value.

@@ -71,7 +71,7 @@ module _ (S : Setting) (s : bril.State) (t : State) (r : RunsAlike S s t) (dest 
     block_kept =
         let k = keeps_homes r.core a.core a.keeps in
         record {
-          homes = record { zero_register = k.zero_register; frame_register = k.frame_register; frames_left = k.frames_left; homes = λ x is. assigned_other a.core.registers 10 _ x (apart_from 10 x refl is) ∙ k.homes x is; stack = k.stack };
+          homes = record { zero_register = k.zero_register; link_register = k.link_register; frame_register = k.frame_register; frames_left = k.frames_left; homes = λ x is. assigned_other a.core.registers 10 _ x (apart_from 10 x refl is) ∙ k.homes x is; stack = k.stack };
           printed = a.keeps.printed;
           arrivals = a.keeps.arrivals;
         }

@@ -33,7 +33,7 @@ module _ (S : Setting) (s : bril.State) (t : State) (r : RunsAlike S s t) (numbe
       let least : (0 + number) % 2 ^ 64 ≡ number = omega arith in
       record {
         core = written q.core 17 ((q.core.registers 0 + number) % 2 ^ 64);
-        keeps = keeps_written e q.core 16 ((q.core.registers 0 + number) % 2 ^ 64) refl refl refl refl q.keeps;
+        keeps = keeps_written e q.core 16 ((q.core.registers 0 + number) % 2 ^ 64) refl refl refl refl refl q.keeps;
         number_is = ap (λ n. (n + number) % 2 ^ 64) null ∙ least;
         word = q.word;
         going = plain S.image (sizes S) tt q.going;

@@ -4,7 +4,7 @@ use Rattle.std.specs.Prelude.{slice_get}
 use Rattle.std.proofs.lemmas.Option.{slice_get_within}
 use Rattle.rv64_emit_laws.specs.layout.Homes.{FunctionHomes}
 use Rattle.rv64_emit_laws.specs.layout.Image.{first_start, function_size, size_at, words_before}
-use Rattle.rv64_emit_laws.specs.layout.Items.{item_size}
+use Rattle.rv64_emit_laws.specs.layout.Items.{item_size, leave_size}
 use Rattle.rv64_emit_laws.proofs.lemmas.layout.Guarding.{InItem, in_function, one_item, same_function}
 use Rattle.rv64_emit_laws.proofs.lemmas.layout.Joining.{below_or, sum_rises}
 use Rattle.rv64_emit_laws.proofs.lemmas.layout.Placing.{entry_is, words_at_end, words_most, words_pass}
@@ -45,7 +45,7 @@ module _ (S : Setting) where
   one_entry e p f q h g x y a b same = one_item S.homes S.slots e p f q (entry_of S e p) (at_entry e p h x a) (subst (InItem S.homes S.slots f q) (sym same) (at_entry f q g y b))
 
   -- words before those of all functions
-  pub head_inner : (w : ℕ) → w < first_start → IsInner w
+  pub head_inner : (w : ℕ) → w < first_start S.homes S.slots → IsInner w
   head_inner w low f point g item has same = let in_f = in_function S.homes S.slots f point (entry_of S f point) (at_entry f point g item has) in let from = in_f.0 in absurd (omega arith)
 
   module _ (f : ℕ) (g : SlotFunction) (there : slice_get S.slots.funcs f ≡ Some g) where
@@ -82,7 +82,7 @@ module _ (S : Setting) where
         of_function w low (omega arith) (λ q item has same. (let is = entry_is S.homes S.slots f g q there in let rise = words_rise (S.homes f) g 0 q (omega arith) in absurd (omega arith)))
 
     -- behind its last item
-    pub leaving_inner : (point w : ℕ) → slice_get g.code point ≡ None → entry_of S f point ≤ w → w < entry_of S f point + 4 → IsInner w
+    pub leaving_inner : (point w : ℕ) → slice_get g.code point ≡ None → entry_of S f point ≤ w → w < entry_of S f point + leave_size (S.homes f) → IsInner w
     leaving_inner point w none low high =
         let at = entry_is S.homes S.slots f g point there in
         let end = words_at_end (S.homes f) g point none in

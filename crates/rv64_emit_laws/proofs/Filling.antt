@@ -131,7 +131,7 @@ module _ (S : Setting) (s : bril.State) (t : State) (r : RunsAlike S s t) (dear 
     where
       filled_already : (b : ℕ) (to of : Home) (c : Core) → to ≡ of → Filled b to (home_word c b of) c c
       filled_already b to of c same = record {
-        rest = record { zero_register = refl; frame_register = refl; frames_left = refl; table = refl; cells = refl; blocks = refl; next_free = refl; printed = refl; arrivals = refl };
+        rest = record { zero_register = refl; link_register = refl; frame_register = refl; frames_left = refl; table = refl; cells = refl; blocks = refl; next_free = refl; printed = refl; arrivals = refl };
         got = ap (home_word c b) same;
         others = λ h usable other. refl;
         stack = λ k apart. refl;

@@ -26,9 +26,11 @@ use Rattle.slot_code.specs.Meaning.{with_slot}
 use Rattle.slot_code.specs.Numbering.{slot_number}
 use Rattle.slot_code.proofs.Places.{slot_place}
 use Rattle.rv64_emit_laws.proofs.Ready.{slot_value}
-use Rattle.rv64_emit_laws.proofs.Relation.{HasWord, OlderHold}
+use Rattle.rv64_emit_laws.proofs.Relation.{HasWord, OlderHold, way_of}
 use Rattle.rv64_emit_laws.proofs.Setting.{Setting}
 use Rattle.rv64_emit_laws.proofs.Sources.{source_at}
+use Rattle.rv64_emit_laws.proofs.Ways.{way_stays}
+use Rattle.rv64_words_laws.specs.stretches.Core.{Core}
 
 -- ---- slots and their numbers
 
@@ -114,16 +116,15 @@ live_fits S f g there x point live =
 
 -- ---- what changes of the stack don't matter
 
--- words above the first two of a frame don't matter to those that wait
-pub older_kept : (S : Setting) (made above base : ℕ) (older : List Frame) (s t : ℕ → ℕ) → ((k : ℕ) → k < base + 2 → t k ≡ s k) → OlderHold S made above base older s → OlderHold S made above base older t
-older_kept S made above base [] s t same h = let lt : base < base + 2 = omega arith in same base lt ∙ h
-older_kept S made above base (f ∷ older) s t same h =
+-- the words of a frame don't matter to those that wait, but for its way back
+pub older_kept : (S : Setting) (made above base back now : ℕ) (older : List Frame) (s t : ℕ → ℕ) → now ≡ back → ((k : ℕ) → k < base → t k ≡ s k) → OlderHold S made above base back older s → OlderHold S made above base now older t
+older_kept S made above base back now [] s t way same h = way ∙ h
+older_kept S made above base back now (f ∷ older) s t way same h =
     let w = h.0 in
     let source = source_at S.p S.slots S.lowered f.function w.function w.there in
     let fit = slots_fit source.function w.function source.is in
     let ends : w.below + w.function.words ≡ base = w.ends in
-    let lt : base < base + 2 = omega arith in
-    let lt1 : base + 1 < base + 2 = omega arith in (
+    let low : w.below < base = omega arith in (
       record {
         function = w.function;
         there = w.there;
@@ -135,13 +136,19 @@ older_kept S made above base (f ∷ older) s t same h =
         below = w.below;
         ends = w.ends;
         deep = w.deep;
-        way = same base lt ∙ w.way;
-        old = same (base + 1) lt1 ∙ w.old;
+        way = way ∙ w.way;
         kept = λ x v live own held. (let fits = live_fits S f w.function w.there x (suc f.point) live in
             subst (HasWord made v) (sym (same (w.below + slot_word w.function (slot_of x)) (omega arith))) (w.kept x v live own held));
       },
-      older_kept S made f.function w.below older s t (λ k less. same k (omega arith)) h.1,
+      older_kept S made f.function w.below (s w.below) (t w.below) older s t (same w.below low) (λ k less. same k (omega arith)) h.1,
     )
+
+-- those that wait for the newest one, where its way back and its first two words stay
+pub older_stay : (S : Setting) (made : ℕ) (f : Frame) (base : ℕ) (older : List Frame) (c e : Core) → e.registers 1 ≡ c.registers 1 → ((k : ℕ) → k < base + 2 → e.stack k ≡ c.stack k) →
+    OlderHold S made f.function base (way_of (S.homes f.function).leaf c base) older c.stack → OlderHold S made f.function base (way_of (S.homes f.function).leaf e base) older e.stack
+older_stay S made f base older c e link same h =
+    let leaf = (S.homes f.function).leaf in
+    older_kept S made f.function base (way_of leaf c base) (way_of leaf e base) older c.stack e.stack (way_stays leaf c e base link (same base (omega arith))) (λ k lt. same k (omega arith)) h
 
 -- ---- the places of frames
 

@@ -60,7 +60,7 @@ module _ (S : Setting) (s : bril.State) (t : State) (r : RunsAlike S s t) (dear 
     last = without_block (a.core.registers 10 / 2 ^ 32) a.core
 
     last_same : SameHomes r.core last
-    last_same = let k = keeps_homes r.core a.core a.keeps in record { zero_register = k.zero_register; frame_register = k.frame_register; frames_left = k.frames_left; homes = k.homes; stack = k.stack }
+    last_same = let k = keeps_homes r.core a.core a.keeps in record { zero_register = k.zero_register; link_register = k.link_register; frame_register = k.frame_register; frames_left = k.frames_left; homes = k.homes; stack = k.stack }
 
     memory_freed : is_freeable (live_block s.blocks points.block) points.offset ≡ true → CoreHolds (sizes S) (changed_block s.blocks points.block dead) last
     memory_freed ok =

@@ -202,7 +202,7 @@ module _ (S : Setting) (s : bril.State) (t : State) (r : RunsAlike S s t) (condi
         restored_holds S (length s.blocks) r.frame r.older d (kept_holds S (length s.blocks) r.frame r.older r.core r.holds d (keeps_homes r.core d keeps)) (standing S s t r) newest rest saves_is abort_to way_goes
         (taken_at (S.homes r.frame.function) (suc (length rest)) abort_to) chosen all_chosen e restored in
         let last = arrived (here S s t r + front) e in
-        let holds = kept_holds S (length s.blocks) f r.older e behind last (record { zero_register = refl; frame_register = refl; frames_left = refl; homes = λ q u. refl; stack = refl }) in
+        let holds = kept_holds S (length s.blocks) f r.older e behind last (record { zero_register = refl; link_register = refl; frame_register = refl; frames_left = refl; homes = λ q u. refl; stack = refl }) in
         arrive S s t r u f r.older last n stepped (ap (λ x. x ∷ r.older) frame_is) r.running (r.printed ∙ sym (restored.rest.printed ∙ keeps.printed)) holds
         (memory_by S s.blocks r.core e (restored.rest.table ∙ keeps.table) (restored.rest.cells ∙ keeps.cells) (restored.rest.blocks ∙ keeps.blocks) (restored.rest.next_free ∙ keeps.next_free) r.memory)
         (counts_held e (restored.rest.arrivals ∙ keeps.arrivals)) runs cheap

@@ -32,10 +32,10 @@ use Rattle.slot_code.specs.Meaning.{with_slot}
 use Rattle.slot_code.specs.Numbering.{slot_number}
 use Rattle.rv64_emit_laws.specs.Homes.{home_at, saved_at}
 use Rattle.rv64_emit_laws.proofs.Acting.{Fills, Leads}
-use Rattle.rv64_emit_laws.proofs.Frames.{filled_here, filled_other, inside, live_in, number_inside, older_kept, one_or_not, slot_back, slot_fits, value_at, value_of}
+use Rattle.rv64_emit_laws.proofs.Frames.{filled_here, filled_other, inside, live_in, number_inside, older_stay, one_or_not, slot_back, slot_fits, value_at, value_of}
 use Rattle.rv64_emit_laws.proofs.Homes.{framed_in, origin, usable_in}
 use Rattle.rv64_emit_laws.proofs.Ready.{slot_value}
-use Rattle.rv64_emit_laws.proofs.Relation.{FramesHold, HasWord, HoldsAt, OlderHold, shadow_word}
+use Rattle.rv64_emit_laws.proofs.Relation.{FramesHold, HasWord, HoldsAt, shadow_word}
 use Rattle.rv64_emit_laws.proofs.Setting.{Setting, sizes, widest}
 use Rattle.rv64_emit_laws.proofs.Sources.{SourceAt}
 use Rattle.rv64_emit_laws.proofs.Standing.{Stands, assigns_here, assigns_there, few_saves, goes_there}
@@ -49,19 +49,20 @@ stack_few S = let e = S.laid.is.stack in let h = S.laid.few_frames in omega arit
 
 -- ---- what homes rely on
 
--- registers 0, 2 and 8, those in which locations may be, and the stack are the same
+-- registers 0, 1, 2 and 8, those in which locations may be, and the stack are the same
 pub record SameHomes (c e : Core) : Type 0 where
   pub zero_register : e.registers 0 ≡ c.registers 0
+  pub link_register : e.registers 1 ≡ c.registers 1
   pub frame_register : e.registers 2 ≡ c.registers 2
   pub frames_left : e.registers 8 ≡ c.registers 8
   pub homes : (r : ℕ) → IsTrue (is_home_register r) → e.registers r ≡ c.registers r
   pub stack : e.stack ≡ c.stack
 
 pub keeps_homes : (c e : Core) → Keeps c e → SameHomes c e
-keeps_homes c e k = record { zero_register = k.zero_register; frame_register = k.frame_register; frames_left = k.frames_left; homes = k.homes; stack = k.stack }
+keeps_homes c e k = record { zero_register = k.zero_register; link_register = k.link_register; frame_register = k.frame_register; frames_left = k.frames_left; homes = k.homes; stack = k.stack }
 
 pub same_itself : (c : Core) → SameHomes c c
-same_itself c = record { zero_register = refl; frame_register = refl; frames_left = refl; homes = λ r h. refl; stack = refl }
+same_itself c = record { zero_register = refl; link_register = refl; frame_register = refl; frames_left = refl; homes = λ r h. refl; stack = refl }
 
 pub home_same : (c e : Core) (b : ℕ) (home : Home) → SameHomes c e → IsUsable home → home_word e b home ≡ home_word c b home
 home_same c e b (Reg r) same usable = same.homes r usable
@@ -145,7 +146,7 @@ module _ (S : Setting) (made : ℕ) (f : bril.Frame) (older : List bril.Frame) (
     left = ap (λ y. y + suc (length older)) same.frames_left ∙ h.left;
     deep = h.deep;
     holds = holds;
-    older_hold = subst (OlderHold S made f.function h.base older) (sym same.stack) h.older_hold;
+    older_hold = older_stay S made f h.base older c e same.link_register (λ k lt. ap (λ m. m k) same.stack) h.older_hold;
   }
 
   abbrev pub kept_holds : (e : Core) → SameHomes c e → FramesHold S made f older e
@@ -195,7 +196,7 @@ module _ (S : Setting) (made : ℕ) (f : bril.Frame) (older : List bril.Frame) (
           f.locations (with_slot dest v f.locations) f.saves (few_saves S f h.function st)
           (λ x none. other_same x (λ is. none (subst (Contains (assigns_at (slice_get (code_of S.p f.function) (end_of st.walk)))) (sym is) (assigns_there S f h.function st (slot_location dest) fl.assigns)))) now.steady;
     };
-    older_hold = older_kept S made f.function h.base older c.stack e.stack (λ k lt. filled.stack k (λ o is same. (let own = home_framed dest o in_dest is in absurd (omega arith)))) h.older_hold;
+    older_hold = older_stay S made f h.base older c e filled.rest.link_register (λ k lt. filled.stack k (λ o is same. (let own = home_framed dest o in_dest is in absurd (omega arith)))) h.older_hold;
   }
     where
       there : Contains (branches_at (code_of S.p f.function) (end_of st.walk)) (onward f.point)

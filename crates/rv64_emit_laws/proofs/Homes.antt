@@ -1,5 +1,5 @@
 -- The homes of a function's locations, where they serve.
-use Rattle.std.proofs.Common.{◌≡◌, ℕ, ◌<◌, true, List, Some, sym, ap, ◌∙◌, subst, arith}
+use Rattle.std.proofs.Common.{◌≡◌, ℕ, ◌<◌, Bool, true, false, cond, List, Option, Some, None, refl, sym, ap, ◌∙◌, subst, arith}
 use Rattle.std.proofs.lemmas.Bool.Decides.{nat_tests}
 use Rattle.std.specs.Prelude.{IsTrue, slice_get}
 use Rattle.bril_tree.specs.declared.home.Home.{Home}
@@ -7,14 +7,17 @@ use Rattle.bril_tree.specs.declared.home.Home.TheVariants.{Reg, Frame}
 use Rattle.bril_tree.specs.declared.numbered.Instr.{Instr}
 use Rattle.bril_tree.specs.declared.numbered_function.Func.{Func}
 use Rattle.bril_tree.specs.declared.program.Prog.{Prog}
+use Rattle.bril_tree.specs.Accepted.{IsAccepted}
 use Rattle.bril_tree.specs.FrameWords.{AreFrameWords}
 use Rattle.bril_tree.specs.Home.{is_home_register}
-use Rattle.bril_tree.specs.Operand.{Location, Variable, Shadow}
+use Rattle.bril_tree.specs.Operand.{Location, Shadow}
+use Rattle.bril_tree.specs.Operand as location
 use Rattle.bril_tree.specs.Sites.{AreSitesSound}
 use Rattle.bril_tree.specs.Step.{code_of, items_of}
 use Rattle.bril_tree.proofs.Acceptance.{accepted_function}
 use Rattle.bril_tree.proofs.Measures.{AreFrameWords-one}
 use Rattle.placement_laws.specs.Homes.{IsHomeOf, slot_of}
+use Rattle.placement_laws.proofs.Living.{live_slot}
 use Rattle.rv64_image_laws.specs.Home.{IsHomeWithin, IsLocationOf}
 use Rattle.rv64_image_laws.specs.Implements.{AreHomesWithin}
 use Rattle.rv64_emit_laws.specs.layout.Homes.{FunctionHomes, in_register, slot_word}
@@ -22,6 +25,7 @@ use Rattle.rv64_emit_laws.specs.layout.Laid.{AreHomes, HaveHomes}
 use Rattle.rv64_emit_laws.proofs.lemmas.layout.Bounding.{function_made}
 use Rattle.rv64_words_laws.specs.sequences.Moves.{IsUsable}
 use Rattle.slot_code.specs.declared.item.Slot.{Slot}
+use Rattle.slot_code.specs.declared.item.Slot.TheVariants.{Variable}
 use Rattle.slot_code.specs.declared.slots.SlotFunction.{SlotFunction}
 use Rattle.slot_code.specs.declared.slots.Slots.{Slots}
 use Rattle.slot_code.specs.Flow.{slot_location}
@@ -88,13 +92,47 @@ module _ (code : List Instr) (args : ℕ) (g : SlotFunction) (homes : FunctionHo
       (ap homes.home (slot_back x) ∙ (same ∙ sym (ap homes.home (slot_back y)))) in
       sym (slot_back x) ∙ (ap slot_of is ∙ slot_back y)
 
-  pub are_homes : (f : Func) → IsLoweredFunction f g → AreHomes g homes
-  are_homes f is = record {
+  pub are_homes : (f : Func) → IsLoweredFunction f g → ((function k : ℕ) (home : Home) → homes.given function k ≡ Some home → IsUsable home) → AreHomes g homes
+  are_homes f is given = record {
     within = λ slot in_g. slot_within g.words slot in_g (slot_fits f g is slot in_g);
     usable = slot_usable;
     near = slot_near;
     apart = λ point x y in_x in_y live_x live_y register same. live_apart point x y live_x live_y register same;
+    given = given;
   }
+
+-- ---- where functions have their arguments
+
+-- The argument is live as the function begins, and it is at its home there.
+pub record IsGiven (homes : FunctionHomes) (g : SlotFunction) (k : ℕ) (home : Home) : Type 0 where
+  pub live : homes.live 0 (Variable k) ≡ true
+  pub is : home ≡ homes.home (Variable k)
+  pub in_g : IsSlotOf g (Variable k)
+
+module _ (p : Prog) (slots : Slots) (homes : ℕ → FunctionHomes) (accepted : IsAccepted p) (lowered : IsLowered p slots) (serve : AllHomesServe homes p slots) where
+  pub is_given : (f function k : ℕ) (home : Home) (g : SlotFunction) → slice_get slots.funcs function ≡ Some g → (homes f).given function k ≡ Some home → IsGiven (homes function) g k home
+  is_given f function k home g there at = by ((homes function).live 0 (Variable k)) refl (sym (serve.given f function k) ∙ at)
+    where
+      by : (t : Bool) → (homes function).live 0 (Variable k) ≡ t → cond t (Some ((homes function).home (Variable k))) None ≡ Some home → IsGiven (homes function) g k home
+      by true told same =
+          let source = source_at p slots lowered function g there in
+          let serves = serve.each function source.function g source.there there in
+          record {
+            live = told;
+            is = cc;
+            in_g = live_slot p function source.function g accepted source.there source.is (location.Variable k) 0 ((serves.live 0 (location.Variable k)).0 told);
+          }
+      by false told same = absurd cc
+
+  pub given_usable : (f function k : ℕ) (home : Home) → (homes f).given function k ≡ Some home → IsUsable home
+  given_usable f function k home at = by (slice_get slots.funcs function) refl
+    where
+      by : (o : Option SlotFunction) → slice_get slots.funcs function ≡ o → IsUsable home
+      by None none = absurd (let clash : None ≡ Some home = sym (serve.absent f function k none) ∙ at in cc)
+      by (Some g) there =
+          let given = is_given f function k home g there at in
+          let source = source_at p slots lowered function g there in
+          subst IsUsable (sym given.is) (slot_usable source.function.code source.function.args g (homes function) (serve.each function source.function g source.there there) (Variable k) given.in_g)
 
 -- ---- a function of the program
 
@@ -104,13 +142,13 @@ module _ (S : Setting) (f : ℕ) (g : SlotFunction) (there : slice_get S.slots.f
 
   -- its homes serve
   pub serving : HomesServe (code_of S.p f) origin.function.args g (S.homes f)
-  serving = subst (λ c. HomesServe c origin.function.args g (S.homes f)) (sym (ap items_of origin.there)) (S.serve f origin.function g origin.there there)
+  serving = subst (λ c. HomesServe c origin.function.args g (S.homes f)) (sym (ap items_of origin.there)) (S.serve.each f origin.function g origin.there there)
 
   pub sound_in : AreSitesSound (code_of S.p f)
   sound_in = subst AreSitesSound (sym (ap items_of origin.there)) (accepted_function S.p f origin.function S.accepted origin.there).sites
 
   pub homes_in : AreHomes g (S.homes f)
-  homes_in = are_homes (code_of S.p f) origin.function.args g (S.homes f) serving origin.function origin.is
+  homes_in = are_homes (code_of S.p f) origin.function.args g (S.homes f) serving origin.function origin.is (given_usable S.p S.slots S.homes S.accepted S.lowered S.serve f)
 
   pub usable_in : (slot : Slot) → IsSlotOf g slot → IsUsable ((S.homes f).home slot)
   usable_in slot in_g = slot_usable (code_of S.p f) origin.function.args g (S.homes f) serving slot in_g
@@ -121,15 +159,15 @@ module _ (S : Setting) (f : ℕ) (g : SlotFunction) (there : slice_get S.slots.f
 
 -- ---- a program
 
-pub have_homes : (p : Prog) (slots : Slots) (homes : ℕ → FunctionHomes) → IsLowered p slots → AllHomesServe homes p slots → HaveHomes homes slots
-have_homes p slots homes lowered serve k g there =
+pub have_homes : (p : Prog) (slots : Slots) (homes : ℕ → FunctionHomes) → IsAccepted p → IsLowered p slots → AllHomesServe homes p slots → HaveHomes homes slots
+have_homes p slots homes accepted lowered serve k g there =
     let made = function_made p slots lowered k g there in
-    are_homes made.0.code made.0.args g (homes k) (serve k made.0 g made.1 there) made.0 made.2
+    are_homes made.0.code made.0.args g (homes k) (serve.each k made.0 g made.1 there) made.0 made.2 (given_usable p slots homes accepted lowered serve k)
 
 module _ (f : Func) (g : SlotFunction) (is : IsLoweredFunction f g) where
   -- a location of the function is a slot of its code
   pub slot_in : (location : Location) → IsLocationOf f location → IsSlotOf g (slot_of location)
-  slot_in (Variable x) less = subst (λ n. x < n) (sym is.variables) less
+  slot_in (location.Variable x) less = subst (λ n. x < n) (sym is.variables) less
   slot_in (Shadow x) (less, named) =
       (subst (λ n. x < n) (sym is.variables) less, ap (λ code. is_used code x) is.code ∙ code_uses f x f.code ∙ named)
 
@@ -142,4 +180,4 @@ module _ (f : Func) (g : SlotFunction) (is : IsLoweredFunction f g) where
 pub homes_within : (p : Prog) (slots : Slots) (homes : ℕ → FunctionHomes) → IsLowered p slots → AllHomesServe homes p slots → AreHomesWithin (homes_of homes) p
 homes_within p slots homes lowered serve k f words location there are its =
     let g = lowered_at p slots lowered k f there in
-    home_within f g.function g.is (homes k) (serve k f g.function there g.there) words location are its
+    home_within f g.function g.is (homes k) (serve.each k f g.function there g.there) words location are its

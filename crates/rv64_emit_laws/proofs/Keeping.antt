@@ -1,9 +1,8 @@
 -- Registers are kept in the own words of their slots: a call brings them there and back, and a function loads its arguments.
-use Rattle.std.proofs.Common.{◌≡◌, ◌≢◌, ℕ, zero, suc, ◌+◌, ◌*◌, ◌<◌, ◌≤◌, ◌⊎◌, inl, inr, Bool, true, false, eqb, not, refl, sym, ap, ◌∙◌, subst, arith, true≢false, List, [], ◌++◌, length, map, Option, Some, None}
+use Rattle.std.proofs.Common.{◌≡◌, ◌≢◌, ℕ, zero, suc, ◌+◌, ◌*◌, ◌<◌, ◌≤◌, ◌⊎◌, inl, inr, Bool, true, false, eqb, not, refl, sym, ap, ◌∙◌, subst, arith, true≢false, List, [], ◌++◌, map, Option, Some, None}
 use Rattle.std.specs.Prelude.{nat_lt, slice_get}
 use Rattle.std.proofs.lemmas.Bool.{and_from, and_parts}
 use Rattle.std.proofs.lemmas.Bool.Decides.{nat_tests}
-use Rattle.std.proofs.lemmas.Option.{slice_get_within}
 use Rattle.bril_tree.specs.declared.home.Home.{Home}
 use Rattle.bril_tree.specs.declared.home.Home.TheVariants.{Reg, Frame}
 use Rattle.bril_tree.specs.declared.value.Value.{Value}
@@ -20,7 +19,7 @@ use Rattle.bril_tree.specs.Step.{code_of, new_frame}
 use Rattle.placement_laws.specs.Holding.{HomesHold}
 use Rattle.placement_laws.specs.Homes.{slot_of}
 use Rattle.placement_laws.proofs.Calling.{needed_alone}
-use Rattle.rv64_emit_laws.specs.layout.Homes.{FunctionHomes, in_register, is_loaded, is_variable, moves_of, opening_moves, outlives, slot_word}
+use Rattle.rv64_emit_laws.specs.layout.Homes.{FunctionHomes, in_register, is_loaded, is_variable, moves_of, outlives, slot_word}
 use Rattle.rv64_emit_laws.proofs.lemmas.layout.Moving.{are_usable, homes_are_apart, move_in, slot_move, unmoved, words_are_apart}
 use Rattle.rv64_words_laws.specs.stretches.Core.{Core, written}
 use Rattle.rv64_words_laws.proofs.lemmas.stretches.Cores.{apart_from, written_other}
@@ -31,6 +30,7 @@ use Rattle.rv64_words.specs.declared.word.Word.{Word}
 use Rattle.rv64_words.specs.Region.{stack_base}
 use Rattle.slot_code.specs.declared.item.Slot.{Slot}
 use Rattle.slot_code.specs.declared.item.Slot.TheVariants.{Variable}
+use Rattle.slot_code.specs.declared.item.SlotItem.TheVariants.{Call}
 use Rattle.slot_code.specs.declared.slots.SlotFunction.{SlotFunction}
 use Rattle.slot_code.specs.Laws.{IsSlotOf}
 use Rattle.slot_code.specs.Numbering.{slot_number}
@@ -38,7 +38,7 @@ use Rattle.rv64_emit_laws.specs.Homes.{home_at, saved_at}
 use Rattle.rv64_emit_laws.proofs.Frames.{arguments_hold, live_in, number_one, slot_fits}
 use Rattle.rv64_emit_laws.proofs.Holding.{stack_few}
 use Rattle.rv64_emit_laws.proofs.Homes.{framed_in, live_apart, origin, serving, sound_in, usable_in}
-use Rattle.rv64_emit_laws.proofs.Relation.{HasWord}
+use Rattle.rv64_emit_laws.proofs.Relation.{HasWord, way_of}
 use Rattle.rv64_emit_laws.proofs.Setting.{Setting, sizes}
 
 -- ---- homes and registers
@@ -180,23 +180,29 @@ other_variable (Some y) (location.Variable x) none = by (eqb y x) refl
     by false e = e
     by true e = absurd (none (inl (let same : y ≡ x = grind (arith, nat_tests) in ap location.Variable (sym same))))
 
+-- a function that calls is no leaf, and its way back is in its frame
+pub way_in_frame : (S : Setting) (f : ℕ) (g : SlotFunction) → slice_get S.slots.funcs f ≡ Some g → (point : ℕ) (dest : Option ℕ) (function : ℕ) (args : List ℕ) → slice_get g.code point ≡ Some (Call dest function args) →
+    (c : Core) (b : ℕ) → c.stack b ≡ way_of (S.homes f).leaf c b
+way_in_frame S f g there point dest function args item c b = by (S.homes f).leaf refl
+  where
+    by : (leaf : Bool) → (S.homes f).leaf ≡ leaf → c.stack b ≡ way_of leaf c b
+    by true told = absurd ((serving S f g there).leaf told point dest function args item)
+    by false told = refl
+
 -- ---- a new frame
 
--- The arguments of a new frame, which are in its words, come to their homes.
-module _ (S : Setting) (made : ℕ) (f : ℕ) (g : SlotFunction) (there : slice_get S.slots.funcs f ≡ Some g) (vals : List Value) (few : length vals ≤ g.args) (b : ℕ) (e last : Core)
-    (loads : Restored b (opening_moves (S.homes f) g) e last) (given : (i : ℕ) (v : Value) → slice_get vals i ≡ Some v → HasWord made v (e.stack (b + (frame_head + i)))) where
+-- The arguments of a new frame are at their homes.
+module _ (S : Setting) (made : ℕ) (f : ℕ) (g : SlotFunction) (there : slice_get S.slots.funcs f ≡ Some g) (vals : List Value) (b : ℕ) (last : Core)
+    (arrives : (x : ℕ) (v : Value) → slice_get vals x ≡ Some v → IsSlotOf g (Variable x) → (S.homes f).live 0 (Variable x) ≡ true → HasWord made v (home_word last b ((S.homes f).home (Variable x)))) where
   none_some : {v : Value} → None ≡ Some v → ⊥
   none_some x = cc
 
   argument : (x : ℕ) (v : Value) → IsLive (code_of S.p f) (location.Variable x) 0 → ((i : ℕ) × (x ≡ 0 + i) × (slice_get vals i ≡ Some v)) ⊎ (bril.no_values x ≡ Some v) → HasWord made v (home_word last b ((S.homes f).home (Variable x)))
   argument x v live (inl w) =
-      let homes = S.homes f in
       let at : w.0 ≡ x = (let is = w.1 in omega arith) in
-      let inside : w.0 < length vals = slice_get_within vals w.0 v w.2 in
       let in_x = live_in S (new_frame f vals) g there (location.Variable x) 0 live in
       let told = ((serving S f g there).live 0 (location.Variable x)).1 live in
-      let same = home_loaded S f g there 0 (is_loaded homes g) (opening_passes homes g) b e last loads (Variable x) in_x (λ register. opening_chooses homes g x (omega arith) told register) in
-      subst (HasWord made v) (sym same) (subst (λ i. HasWord made v (e.stack (b + (frame_head + i)))) at (given w.0 v w.2))
+      arrives x v (subst (λ i. slice_get vals i ≡ Some v) at w.2) in_x told
   argument x v live (inr w) = absurd (none_some w)
 
   at_home : (x : Location) (v : Value) → IsLive (code_of S.p f) x 0 → location_value (new_frame f vals).locations x ≡ Some v → HasWord made v (home_word last b (home_at (S.homes f) x))

@@ -13,6 +13,7 @@ pub mod Filling
 pub mod Finding
 pub mod Frames
 pub mod Freeing
+pub mod Giving
 pub mod GuardList
 pub mod Guarding
 pub mod HavingWords
@@ -48,5 +49,6 @@ pub mod Starting
 pub mod Storing
 pub mod Stretches
 pub mod Theorem
+pub mod Ways
 pub mod Whole
 pub mod lemmas

@@ -78,6 +78,7 @@ says_more : (c e f : Core) (text more : List ℕ) → Says c e text → Keeps e 
 says_more c e f text more h k = record {
   same = record {
     zero_register = k.zero_register ∙ h.same.zero_register;
+    link_register = k.link_register ∙ h.same.link_register;
     frame_register = k.frame_register ∙ h.same.frame_register;
     frames_left = k.frames_left ∙ h.same.frames_left;
     homes = λ x is. k.homes x is ∙ h.same.homes x is;
@@ -109,7 +110,7 @@ module _ (S : Setting) (s : bril.State) (t : State) (r : RunsAlike S s t) where
       let called = written q.core 17 ((q.core.registers 0 + 4) % 2 ^ 64) in
       record {
         core = said called (32 ∷ []);
-        says = says_more r.core q.core called text (32 ∷ []) q.says (keeps_written q.core q.core 16 ((q.core.registers 0 + 4) % 2 ^ 64) refl refl refl refl (keeps_itself q.core));
+        says = says_more r.core q.core called text (32 ∷ []) q.says (keeps_written q.core q.core 16 ((q.core.registers 0 + 4) % 2 ^ 64) refl refl refl refl refl (keeps_itself q.core));
         going = is_place S.image (sizes S) (n + 2) (j + 2) (omega arith) (omega arith) (print_space S.image (sizes S) four (plain S.image (sizes S) tt q.going));
       }
 
@@ -120,7 +121,7 @@ module _ (S : Setting) (s : bril.State) (t : State) (r : RunsAlike S s t) where
       let called = written q.core 17 ((q.core.registers 0 + 5) % 2 ^ 64) in
       record {
         core = said called (10 ∷ []);
-        says = says_more r.core q.core called text (10 ∷ []) q.says (keeps_written q.core q.core 16 ((q.core.registers 0 + 5) % 2 ^ 64) refl refl refl refl (keeps_itself q.core));
+        says = says_more r.core q.core called text (10 ∷ []) q.says (keeps_written q.core q.core 16 ((q.core.registers 0 + 5) % 2 ^ 64) refl refl refl refl refl (keeps_itself q.core));
         going = is_place S.image (sizes S) (n + 2) (j + 2) (omega arith) (omega arith) (print_line_end S.image (sizes S) five (plain S.image (sizes S) tt q.going));
       }
 

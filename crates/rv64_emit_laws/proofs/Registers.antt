@@ -38,6 +38,7 @@ first_stays true (Frame o) (Frame p) c e usable other keeps same = same 5 (λ x.
 pub but_on : (d : ℕ) (c e f : Core) → Keeps c e → KeepsBut d e f → KeepsBut d c f
 but_on d c e f a b = record {
   zero_register = b.zero_register ∙ a.zero_register;
+  link_register = b.link_register ∙ a.link_register;
   frame_register = b.frame_register ∙ a.frame_register;
   frames_left = b.frames_left ∙ a.frames_left;
   homes = λ r home ne. b.homes r home ne ∙ a.homes r home;

@@ -1,6 +1,6 @@
 -- The relation between the states of a program and those of the machine that runs its image.
-use Rattle.std.proofs.Common.{◌≡◌, ℕ, suc, ◌+◌, ◌*◌, ◌≤◌, true, List, [], ◌∷◌, length, Option, Some, None}
-use Rattle.std.specs.Prelude.{slice_get}
+use Rattle.std.proofs.Common.{◌≡◌, ℕ, suc, ◌+◌, ◌*◌, ◌≤◌, Bool, true, List, [], ◌∷◌, length, Option, Some, None}
+use Rattle.std.specs.Prelude.{if◌then◌else◌, slice_get}
 use Rattle.std.specs.List.{Contains}
 use Rattle.bril_tree.specs.declared.home.Home.{Home}
 use Rattle.bril_tree.specs.declared.limits.End.{End}
@@ -39,10 +39,14 @@ own_word g b stack x = stack (b + slot_word g (slot_of x))
 
 -- ---- frames
 
--- A frame waits at a call of the function `above`, whose frame is at word `base` of the stack: its own ends there, and the
--- first two words from there on are the way back and its own base. So many frames are older. What is live after the call, the
--- call's destination apart, is in its own word of the frame, where the call has put what is in registers.
-pub record Waits (S : Setting) (made above base depth : ℕ) (f : bril.Frame) (stack : ℕ → ℕ) : Type 0 where
+-- the way back of a frame at word b of the stack, while it is the newest one: a leaf has it in register 1
+abbrev pub way_of : Bool → Core → ℕ → ℕ
+way_of leaf c b = if leaf then c.registers 1 else c.stack b
+
+-- A frame waits at a call of the function `above`, whose frame is at word `base` of the stack, where its own ends, and has the way
+-- `back`. So many frames are older. What is live after the call, the call's destination apart, is in its own word of the frame,
+-- where the call has put what is in registers.
+pub record Waits (S : Setting) (made above base back depth : ℕ) (f : bril.Frame) (stack : ℕ → ℕ) : Type 0 where
   pub function : SlotFunction
   pub there : slice_get S.slots.funcs f.function ≡ Some function
   pub dest : Option ℕ
@@ -53,16 +57,16 @@ pub record Waits (S : Setting) (made above base depth : ℕ) (f : bril.Frame) (s
   pub below : ℕ
   pub ends : below + function.words ≡ base
   pub deep : below ≤ depth * widest S
-  pub way : stack base ≡ 4 * return_word (S.homes f.function) function f.point (entry_of S f.function f.point) dest args
-  pub old : stack (base + 1) ≡ stack_base + 8 * below
+  pub way : back ≡ 4 * return_word (S.homes f.function) function f.point (entry_of S f.function f.point) dest above args
   pub kept : (x : Location) (v : Value) → IsLive (code_of S.p f.function) x (suc f.point) → (Contains (assigns_at (slice_get (code_of S.p f.function) f.point)) x → ⊥) → location_value f.locations x ≡ Some v →
       HasWord made v (own_word function below stack x)
 
--- the frames that wait for one of the function `above` at word `base`; the program ends where the first one returns
-abbrev pub OlderHold : Setting → ℕ → ℕ → ℕ → List bril.Frame → (ℕ → ℕ) → Type 0
-OlderHold S made above base [] stack = stack base ≡ 4 * end_start
-OlderHold S made above base (f ∷ older) stack =
-    (w : Waits S made above base (length older) f stack) × OlderHold S made f.function w.below older stack
+-- the frames that wait for one of the function `above` at word `base`, which has the way `back`; the program ends where the first
+-- one returns
+abbrev pub OlderHold : Setting → ℕ → ℕ → ℕ → ℕ → List bril.Frame → (ℕ → ℕ) → Type 0
+OlderHold S made above base back [] stack = back ≡ 4 * end_start S.homes S.slots
+OlderHold S made above base back (f ∷ older) stack =
+    (w : Waits S made above base back (length older) f stack) × OlderHold S made f.function w.below (stack w.below) older stack
 
 -- what homes and shadow words hold of a frame at a point
 abbrev pub HoldsAt : Setting → ℕ → bril.Frame → ℕ → bril.Locals → List bril.Locals → (Home → ℕ) → (ℕ → Location → ℕ) → Type 0
@@ -78,7 +82,7 @@ pub record FramesHold (S : Setting) (made : ℕ) (f : bril.Frame) (older : List 
   pub left : c.registers 8 + suc (length older) ≡ S.limits.frames
   pub deep : base ≤ length older * widest S
   pub holds : HoldsAt S made f f.point f.locations f.saves (home_word c base) (shadow_word function base c.stack)
-  pub older_hold : OlderHold S made f.function base older c.stack
+  pub older_hold : OlderHold S made f.function base (way_of (S.homes f.function).leaf c base) older c.stack
 
 -- ---- guards
 

@@ -25,7 +25,7 @@ use Rattle.rv64_emit_laws.specs.Homes.{home_at, saved_at}
 use Rattle.rv64_emit_laws.proofs.Acting.{Fills}
 use Rattle.rv64_emit_laws.proofs.Arriving.{Moves, arrive, guards_by, here, memory_by, onto_next}
 use Rattle.rv64_emit_laws.proofs.Holding.{SameHomes, filled_holds, home_inside, home_usable, kept_holds, stack_few}
-use Rattle.rv64_emit_laws.proofs.Relation.{HasWord, Waits, OlderHold, FramesHold, RunsAlike, own_word, shadow_word}
+use Rattle.rv64_emit_laws.proofs.Relation.{HasWord, Waits, OlderHold, FramesHold, RunsAlike, own_word, shadow_word, way_of}
 use Rattle.rv64_emit_laws.proofs.Setting.{Setting, entry_of, sizes}
 use Rattle.rv64_emit_laws.proofs.Standing.{standing}
 use Rattle.rv64_emit_laws.proofs.Stretches.{landed, store_some, with_end}
@@ -44,8 +44,8 @@ module _ (made more : ℕ) (le : made ≤ more) where
   steady_more code homes saved point locations [] h = tt
   steady_more code homes saved point locations (save ∷ older) h = (h.0, steady_more code homes saved point locations older h.1)
 
-  waits_more : (S : Setting) (above base depth : ℕ) (f : bril.Frame) (stack : ℕ → ℕ) → Waits S made above base depth f stack → Waits S more above base depth f stack
-  waits_more S above base depth f stack w = record {
+  waits_more : (S : Setting) (above base back depth : ℕ) (f : bril.Frame) (stack : ℕ → ℕ) → Waits S made above base back depth f stack → Waits S more above base back depth f stack
+  waits_more S above base back depth f stack w = record {
     function = w.function;
     there = w.there;
     dest = w.dest;
@@ -57,14 +57,13 @@ module _ (made more : ℕ) (le : made ≤ more) where
     ends = w.ends;
     deep = w.deep;
     way = w.way;
-    old = w.old;
     kept = λ x v live own held. word_known made more v (own_word w.function w.below stack x) le (w.kept x v live own held);
   }
 
-  pub older_more : (S : Setting) (above base : ℕ) (older : List bril.Frame) (stack : ℕ → ℕ) → OlderHold S made above base older stack → OlderHold S more above base older stack
+  pub older_more : (S : Setting) (above base back : ℕ) (older : List bril.Frame) (stack : ℕ → ℕ) → OlderHold S made above base back older stack → OlderHold S more above base back older stack
   unfolding waits_more
-  older_more S above base [] stack h = h
-  older_more S above base (f ∷ older) stack h = (waits_more S above base (length older) f stack h.0, older_more S f.function h.0.below older stack h.1)
+  older_more S above base back [] stack h = h
+  older_more S above base back (f ∷ older) stack h = (waits_more S above base back (length older) f stack h.0, older_more S f.function h.0.below (stack h.0.below) older stack h.1)
 
   -- the frames are held as before
   abbrev pub frames_more : (S : Setting) (f : bril.Frame) (older : List bril.Frame) (c : Core) → FramesHold S made f older c → FramesHold S more f older c
@@ -81,7 +80,7 @@ module _ (made more : ℕ) (le : made ≤ more) where
       saves_hold = saves_more (code_of S.p f.function) (home_at (S.homes f.function)) (saved_at (S.homes f.function)) f.point f.saves (shadow_word h.function h.base c.stack) h.holds.saves_hold;
       steady = steady_more (code_of S.p f.function) (home_at (S.homes f.function)) (saved_at (S.homes f.function)) f.point f.locations f.saves h.holds.steady;
     };
-    older_hold = older_more S f.function h.base older c.stack h.older_hold;
+    older_hold = older_more S f.function h.base (way_of (S.homes f.function).leaf c h.base) older c.stack h.older_hold;
   }
 
 -- a change of one block makes no block

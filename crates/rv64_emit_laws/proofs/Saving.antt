@@ -27,7 +27,7 @@ use Rattle.slot_code.specs.Laws.{IsSlotOf}
 use Rattle.slot_code.specs.Numbering.{slot_number}
 use Rattle.rv64_emit_laws.specs.Homes.{home_at, saved_at}
 use Rattle.rv64_emit_laws.proofs.Acting.{Leads}
-use Rattle.rv64_emit_laws.proofs.Frames.{deeper, live_in, number_inside, older_kept, one_or_not, slot_back}
+use Rattle.rv64_emit_laws.proofs.Frames.{deeper, live_in, number_inside, older_stay, one_or_not, slot_back}
 use Rattle.rv64_emit_laws.proofs.Holding.{home_framed, home_inside, home_usable, needed_in, no_level_home, reworded, source, stack_room}
 use Rattle.rv64_emit_laws.proofs.Relation.{FramesHold, HasWord, HoldsAt, shadow_word}
 use Rattle.rv64_emit_laws.proofs.Setting.{Setting, sizes, widest}
@@ -105,7 +105,7 @@ module _ (S : Setting) (made : ℕ) (f : bril.Frame) (older : List bril.Frame) (
     deep = h.deep;
     holds = reworded (code_of S.p f.function) (home_at (S.homes f.function)) (saved_at (S.homes f.function)) (HasWord made) (suc f.point) f.locations (f.locations ∷ f.saves) (home_word c h.base) (home_word e h.base) (shadow_word h.function h.base e.stack)
         (λ x needed. same_home (slot_of x) (needed_in S made f older c h (suc f.point) x needed) ((S.homes f.function).home (slot_of x)) refl) now;
-    older_hold = older_kept S made f.function h.base older c.stack e.stack (λ k lt. below k (omega arith)) h.older_hold;
+    older_hold = older_stay S made f h.base older c e saved.rest.link_register (λ k lt. below k (omega arith)) h.older_hold;
   }
     where
       -- a word below the new level is as it was
@@ -217,7 +217,7 @@ module _ (S : Setting) (made : ℕ) (f : bril.Frame) (older : List bril.Frame) (
         saves_hold = shadows_same (code_of S.p f.function) (home_at (S.homes f.function)) (saved_at (S.homes f.function)) (HasWord made) label rest (shadow_word h.function h.base c.stack) (shadow_word h.function h.base e.stack) level_same now.saves_hold;
         steady = now.steady;
       };
-      older_hold = older_kept S made f.function h.base older c.stack e.stack (λ k lt. restored.stack k (λ m o i is same. (let own = moved_home m o i is in absurd (omega arith)))) h.older_hold;
+      older_hold = older_stay S made f h.base older c e restored.rest.link_register (λ k lt. restored.stack k (λ m o i is same. (let own = moved_home m o i is in absurd (omega arith)))) h.older_hold;
     }
       where
         -- the home of a move in the frame is the slot's own word

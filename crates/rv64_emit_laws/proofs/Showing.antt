@@ -25,10 +25,10 @@ use Rattle.bril_tree.proofs.Acceptance.{accepted_function}
 use Rattle.rv64_image_laws.specs.Home.{IsAt, IsHomeWithin}
 use Rattle.rv64_image_laws.specs.WordBounds.{IsWithin}
 use Rattle.rv64_emit_laws.specs.layout.Homes.{AreMarked, FunctionHomes}
-use Rattle.rv64_emit_laws.specs.layout.Image.{IsImageOf, entry_at, function_words_at, head_words, image_words, joined, start_at}
+use Rattle.rv64_emit_laws.specs.layout.Image.{IsImageOf, entry_at, function_words_at, head_words, main_moves, image_words, joined, start_at}
 use Rattle.rv64_emit_laws.proofs.lemmas.layout.Guarding.{InItem, in_function, one_item}
 use Rattle.rv64_emit_laws.proofs.lemmas.layout.Joining.{below_or}
-use Rattle.rv64_emit_laws.proofs.lemmas.layout.Laid.{functions_length}
+use Rattle.rv64_emit_laws.proofs.lemmas.layout.Laid.{functions_length, head_length}
 use Rattle.rv64_emit_laws.proofs.lemmas.layout.Placing.{function_inside}
 use Rattle.rv64_words.specs.declared.image.Image.{Image}
 use Rattle.rv64_words.specs.Encoding.{encoded}
@@ -121,9 +121,10 @@ module _ (p : Prog) (homes : ℕ → FunctionHomes) (slots : Slots) (limits : Li
 
   image_length : length image.words ≡ start_at homes slots (length slots.funcs)
   image_length =
-      let head = head_words limits (start_at homes slots slots.main) in
+      let main = start_at homes slots slots.main in
+      let head = head_words limits (main_moves homes slots) main in
       let rest = joined (function_words_at homes slots) (length slots.funcs) in
-      omega (arith, ap length is.words, length-map (image_words homes slots limits) encoded, length-append head rest, functions_length homes slots (length slots.funcs))
+      omega (arith, ap length is.words, length-map (image_words homes slots limits) encoded, length-append head rest, head_length limits (main_moves homes slots) main, functions_length homes slots (length slots.funcs))
 
   point_inside : (k : ℕ) (at : PointAt) → slice_get points.points k ≡ Some at → at.word < length image.words
   point_inside k at there =

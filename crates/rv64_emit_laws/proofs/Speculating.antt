@@ -67,7 +67,7 @@ module _ (S : Setting) (s : bril.State) (t : State) (r : RunsAlike S s t) where
   -- no slot is kept
   nothing_saved : (b : ℕ) (moves : List Move) (c : Core) → moves ≡ [] → Saved b moves c c
   nothing_saved b [] c none = record {
-    rest = record { zero_register = refl; frame_register = refl; frames_left = refl; table = refl; cells = refl; blocks = refl; next_free = refl; printed = refl; arrivals = refl };
+    rest = record { zero_register = refl; link_register = refl; frame_register = refl; frames_left = refl; table = refl; cells = refl; blocks = refl; next_free = refl; printed = refl; arrivals = refl };
     registers = λ q not_five not_six. refl;
     got = λ m i. absurd i;
     others = λ k apart. refl;

@@ -73,7 +73,7 @@ module _ (S : Setting) (s : bril.State) (t : State) (r : RunsAlike S s t) (dear 
     marked_keeps = keeps_five r.core a.core 1 a.keeps
 
     marked_same : SameHomes r.core marked
-    marked_same = let k = marked_keeps in record { zero_register = k.zero_register; frame_register = k.frame_register; frames_left = k.frames_left; homes = k.homes; stack = k.stack }
+    marked_same = let k = marked_keeps in record { zero_register = k.zero_register; link_register = k.link_register; frame_register = k.frame_register; frames_left = k.frames_left; homes = k.homes; stack = k.stack }
 
     -- then a register has the value
     brought : Brought S s t r true 5 (Variable value) holds.value (a.steps + 1 + 1) (place + 1 + 1) marked (store_cell_words register)
@@ -99,7 +99,7 @@ module _ (S : Setting) (s : bril.State) (t : State) (r : RunsAlike S s t) (dear 
       last_same =
           let k = q.keeps in
           let m = marked_same in
-          record { zero_register = k.zero_register ∙ m.zero_register; frame_register = k.frame_register ∙ m.frame_register; frames_left = k.frames_left ∙ m.frames_left; homes = λ x is. k.homes x is ∙ m.homes x is; stack = k.stack ∙ m.stack }
+          record { zero_register = k.zero_register ∙ m.zero_register; link_register = k.link_register ∙ m.link_register; frame_register = k.frame_register ∙ m.frame_register; frames_left = k.frames_left ∙ m.frames_left; homes = λ x is. k.homes x is ∙ m.homes x is; stack = k.stack ∙ m.stack }
 
       -- register 7 has the cell's address still
       address : q.core.registers 7 ≡ cells_base + 16 * at

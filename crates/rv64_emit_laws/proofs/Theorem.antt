@@ -26,7 +26,7 @@ use Rattle.rv64_emit_laws.proofs.Homes.{have_homes, homes_within}
 module _ (p : Prog) (homes : ℕ → FunctionHomes) (slots : Slots) (limits : Limits) (image : Image) (accepted : IsAccepted p) (literals : AreLiteralsInRange p) (lowered : IsLowered p slots) (within : IsWithin p limits)
     (serve : AllHomesServe homes p slots) (is : IsImageOf homes slots limits image) where
   pub is_laid : IsLaid homes slots limits image
-  is_laid = laid p homes slots limits image accepted literals lowered within (have_homes p slots homes lowered serve) is
+  is_laid = laid p homes slots limits image accepted literals lowered within (have_homes p slots homes accepted lowered serve) is
 
   abbrev pub setting : (args : List Value) → FitMain p args → Setting
   setting args fit = record {

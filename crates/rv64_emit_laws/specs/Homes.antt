@@ -1,5 +1,5 @@
 -- Where the locations of a program are while its image runs, and when homes serve.
-use Rattle.std.specs.Prelude.{◌≡◌, ◌↔◌, ℕ, Bool, true, List, Some, slice_get}
+use Rattle.std.specs.Prelude.{◌≡◌, ◌↔◌, ℕ, Bool, true, List, Option, Some, None, slice_get}
 use Rattle.bril_tree.specs.declared.home.Home.{Home}
 use Rattle.bril_tree.specs.declared.numbered.Instr.{Instr}
 use Rattle.bril_tree.specs.declared.numbered_function.Func.{Func}
@@ -9,7 +9,8 @@ use Rattle.bril_tree.specs.Operand.{Location}
 use Rattle.placement_laws.specs.Homes.{IsHomeOf, IsSlotIn, slot_of}
 use Rattle.placement_laws.specs.Placed.{IsPlaced}
 use Rattle.placement_laws.specs.Saved.{HasAllSaved}
-use Rattle.rv64_emit_laws.specs.layout.Homes.{FunctionHomes, in_register}
+use Rattle.rv64_emit_laws.specs.layout.Homes.{FunctionHomes, given_home, in_register}
+use Rattle.slot_code.specs.declared.item.SlotItem.TheVariants.{Call}
 use Rattle.slot_code.specs.declared.slots.SlotFunction.{SlotFunction}
 use Rattle.slot_code.specs.declared.slots.Slots.{Slots}
 
@@ -29,14 +30,18 @@ abbrev pub homes_of : (ℕ → FunctionHomes) → ℕ → Location → Home
 homes_of homes f location = home_at (homes f) location
 
 -- The homes serve a function of so many arguments: no home is lost that is needed, all is kept that a guard may have to give
--- back, each location is in its own word of the frame or in a register, it is told what is live, and no two locations that are
--- live at one point, reachable or not, are in one register.
+-- back, each location is in its own word of the frame or in a register, it is told what is live, no two locations that are live at
+-- one point, reachable or not, are in one register, and a leaf calls nothing.
 pub record HomesServe (code : List Instr) (args : ℕ) (g : SlotFunction) (homes : FunctionHomes) : Type 0 where
   pub placed : IsPlaced code args (home_at homes) (saved_at homes)
   pub saved : HasAllSaved code (saved_at homes)
   pub own : (x : Location) → IsSlotIn g x → IsHomeOf g x (home_at homes x)
   pub live : (point : ℕ) (x : Location) → (live_at homes point x ≡ true) ↔ IsLive code x point
   pub registers : (point : ℕ) (x y : Location) → IsLive code x point → IsLive code y point → in_register (home_at homes x) ≡ true → home_at homes x ≡ home_at homes y → x ≡ y
+  pub leaf : homes.leaf ≡ true → (point : ℕ) (dest : Option ℕ) (function : ℕ) (args : List ℕ) → slice_get g.code point ≡ Some (Call dest function args) → ⊥
 
-abbrev pub AllHomesServe : (ℕ → FunctionHomes) → Prog → Slots → Type 0
-AllHomesServe homes p slots = (k : ℕ) (f : Func) (g : SlotFunction) → slice_get p.funcs k ≡ Some f → slice_get slots.funcs k ≡ Some g → HomesServe f.code f.args g (homes k)
+-- They serve each function of a program, and tell where each has its arguments as it begins.
+pub record AllHomesServe (homes : ℕ → FunctionHomes) (p : Prog) (slots : Slots) : Type 0 where
+  pub each : (k : ℕ) (f : Func) (g : SlotFunction) → slice_get p.funcs k ≡ Some f → slice_get slots.funcs k ≡ Some g → HomesServe f.code f.args g (homes k)
+  pub given : (f function k : ℕ) → (homes f).given function k ≡ given_home (homes function) k
+  pub absent : (f function k : ℕ) → slice_get slots.funcs function ≡ None → (homes f).given function k ≡ None

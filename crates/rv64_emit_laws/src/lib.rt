@@ -7,9 +7,9 @@
 //! its guards may have to give back; of frames that wait it holds what is live after their calls. Each item's words lead from
 //! related states to related states, within the cost of a step, and come to no item's first word before.
 //!
-//! 1. The image (`layout`): the words of each item by the homes of its slots (`specs/layout/Items.antt`, `Homes.antt`), where
-//!    items and functions begin, and the whole (`Image.antt`). Each item's words are at its entry, within its bound, for any
-//!    homes that are registers or words of the frame.
+//! 1. The image (`layout`): the words of each item by the homes of its slots (`specs/layout/Items.antt`, `Homes.antt`) and of arguments
+//!    (`Passing.antt`), where items and functions begin, and the whole (`Image.antt`). Each item's words are at its entry, within its
+//!    bound, for any homes that are registers or words of the frame.
 //! 2. Where locations are (`specs/Homes.antt`), and when the machine is at an item (`specs/Entered.antt`).
 //! 3. How the states of a program and of the machine are related (`proofs/Relation.antt`); the other files of `proofs/` have
 //!    one kind of item each.

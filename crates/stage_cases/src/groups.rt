@@ -140,21 +140,43 @@ fn name_of_cell(group: Group) -> &'static str {
     }
 }
 
-// Calls and returns.
+// Calls.
 fn name_of_call(group: Group) -> &'static str {
     match group {
-        Group::Room => "Room",
-        Group::RoomKeepTwo(..) => "RoomKeepTwo",
         Group::Enter(..) => "Enter",
         Group::KeepEnter(..) => "KeepEnter",
-        Group::EnterFetch(..) => "EnterFetch",
-        Group::EnterFetchTwo(..) => "EnterFetchTwo",
-        Group::KeepEnterFetch(..) => "KeepEnterFetch",
-        Group::KeepEnterFetchTwo(..) => "KeepEnterFetchTwo",
+        Group::CopyEnter(..) => "CopyEnter",
+        Group::CopyTwoEnter(..) => "CopyTwoEnter",
+        Group::KeepCopyEnter(..) => "KeepCopyEnter",
+        Group::FetchEnter(..) => "FetchEnter",
+        Group::CopyFetchEnter(..) => "CopyFetchEnter",
+        Group::Room => "Room",
+        Group::RoomKeepTwo(..) => "RoomKeepTwo",
+        Group::RoomEnter(..) => "RoomEnter",
+        Group::RoomKeepEnter(..) => "RoomKeepEnter",
+        Group::RoomCopyEnter(..) => "RoomCopyEnter",
+        Group::RoomCopyTwoEnter(..) => "RoomCopyTwoEnter",
+        Group::RoomKeepCopyEnter(..) => "RoomKeepCopyEnter",
+        _ => name_of_return(group),
+    }
+}
+
+// Returns, and what comes behind calls.
+fn name_of_return(group: Group) -> &'static str {
+    match group {
         Group::Leave => "Leave",
         Group::LeaveWith(..) => "LeaveWith",
         Group::AddLeave(..) => "AddLeave",
         Group::CopyLeave(..) => "CopyLeave",
+        Group::LeaveLeaf => "LeaveLeaf",
+        Group::LeaveLeafWith(..) => "LeaveLeafWith",
+        Group::AddLeaveLeaf(..) => "AddLeaveLeaf",
+        Group::BackCopy(..) => "BackCopy",
+        Group::BackCopyLeave(..) => "BackCopyLeave",
+        Group::BackFetch(..) => "BackFetch",
+        Group::BackFetchTwo(..) => "BackFetchTwo",
+        Group::BackFetchCopy(..) => "BackFetchCopy",
+        Group::BackFetchTwoCopy(..) => "BackFetchTwoCopy",
         _ => name_of_kept(group),
     }
 }

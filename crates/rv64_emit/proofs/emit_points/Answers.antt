@@ -17,14 +17,14 @@ image_of-requires-clause-fits c =
     let p = c.args.prog.now.prog in
     let front = c.in_ok-front.front in
     front_fits p c.args.limits (subst IsAccepted c.prog.ensures.value c.prog.ensures.accepted) (subst AreLiteralsInRange c.prog.ensures.value c.literals_are_in_range.ensures) front (c.in_ok-front.ensures {u = tt}).made true
-    (all_homes c.of-homes.result) (c.of-homes.ensures ∙ ap (placed_homes true front.placed) c.as_slice-lives.ensures) (subst IsCounted c.prog.ensures.value c.prog.ensures.counted)
+    (all_homes c.of-homes.result) (c.of-homes.ensures ∙ ap (placed_homes true front.slots front.placed) c.as_slice-lives.ensures) (subst IsCounted c.prog.ensures.value c.prog.ensures.counted)
 
 pub image_of-requires-clause-stack : goal.image_of-requires-clause-stack
 image_of-requires-clause-stack c =
     let p = c.args.prog.now.prog in
     let front = c.in_ok-front.front in
     front_stack p c.args.limits (subst IsAccepted c.prog.ensures.value c.prog.ensures.accepted) (subst AreLiteralsInRange c.prog.ensures.value c.literals_are_in_range.ensures) front (c.in_ok-front.ensures {u = tt}).made true
-    (all_homes c.of-homes.result) (c.of-homes.ensures ∙ ap (placed_homes true front.placed) c.as_slice-lives.ensures)
+    (all_homes c.of-homes.result) (c.of-homes.ensures ∙ ap (placed_homes true front.slots front.placed) c.as_slice-lives.ensures)
 
 pub points_of-requires-clause-functions : goal.points_of-requires-clause-functions
 points_of-requires-clause-functions c =
@@ -38,7 +38,7 @@ points_of-requires-clause-fits c =
     let p = c.args.prog.now.prog in
     let front = c.in_ok-front.front in
     front_fits p c.args.limits (subst IsAccepted c.prog.ensures.value c.prog.ensures.accepted) (subst AreLiteralsInRange c.prog.ensures.value c.literals_are_in_range.ensures) front (c.in_ok-front.ensures {u = tt}).made true
-    (all_homes c.of-homes.result) (c.of-homes.ensures ∙ ap (placed_homes true front.placed) c.as_slice-lives.ensures) (subst IsCounted c.prog.ensures.value c.prog.ensures.counted)
+    (all_homes c.of-homes.result) (c.of-homes.ensures ∙ ap (placed_homes true front.slots front.placed) c.as_slice-lives.ensures) (subst IsCounted c.prog.ensures.value c.prog.ensures.counted)
 
 pub returns-clause-words : goal.returns-clause-words
 returns-clause-words c =
@@ -46,7 +46,7 @@ returns-clause-words c =
     let front = c.in_ok-front.front in
     let made =
     front_emitted p c.args.limits (subst IsAccepted c.prog.ensures.value c.prog.ensures.accepted) (subst AreLiteralsInRange c.prog.ensures.value c.literals_are_in_range.ensures) front (c.in_ok-front.ensures {u = tt}).made true
-    (all_homes c.of-homes.result) (c.of-homes.ensures ∙ ap (placed_homes true front.placed) c.as_slice-lives.ensures) c.in_ok-image.image (c.in_ok-image.ensures {u = tt}) in
+    (all_homes c.of-homes.result) (c.of-homes.ensures ∙ ap (placed_homes true front.slots front.placed) c.as_slice-lives.ensures) c.in_ok-image.image (c.in_ok-image.ensures {u = tt}) in
     made.words
 
 pub returns-clause-guards : goal.returns-clause-guards
@@ -55,7 +55,7 @@ returns-clause-guards c =
     let front = c.in_ok-front.front in
     let made =
     front_emitted p c.args.limits (subst IsAccepted c.prog.ensures.value c.prog.ensures.accepted) (subst AreLiteralsInRange c.prog.ensures.value c.literals_are_in_range.ensures) front (c.in_ok-front.ensures {u = tt}).made true
-    (all_homes c.of-homes.result) (c.of-homes.ensures ∙ ap (placed_homes true front.placed) c.as_slice-lives.ensures) c.in_ok-image.image (c.in_ok-image.ensures {u = tt}) in
+    (all_homes c.of-homes.result) (c.of-homes.ensures ∙ ap (placed_homes true front.slots front.placed) c.as_slice-lives.ensures) c.in_ok-image.image (c.in_ok-image.ensures {u = tt}) in
     made.guards
 
 pub returns-clause-stack : goal.returns-clause-stack
@@ -64,7 +64,7 @@ returns-clause-stack c =
     let front = c.in_ok-front.front in
     let made =
     front_emitted p c.args.limits (subst IsAccepted c.prog.ensures.value c.prog.ensures.accepted) (subst AreLiteralsInRange c.prog.ensures.value c.literals_are_in_range.ensures) front (c.in_ok-front.ensures {u = tt}).made true
-    (all_homes c.of-homes.result) (c.of-homes.ensures ∙ ap (placed_homes true front.placed) c.as_slice-lives.ensures) c.in_ok-image.image (c.in_ok-image.ensures {u = tt}) in
+    (all_homes c.of-homes.result) (c.of-homes.ensures ∙ ap (placed_homes true front.slots front.placed) c.as_slice-lives.ensures) c.in_ok-image.image (c.in_ok-image.ensures {u = tt}) in
     made.stack
 
 pub returns-clause-shows : goal.returns-clause-shows
@@ -75,7 +75,7 @@ returns-clause-shows c =
     let points = c.in_ok-points.points in
     let its : ArePointsOf (homes_of homes) (entry_at homes front.slots) p points = subst (λ q. ArePointsOf (homes_of homes) (entry_at homes front.slots) q points) c.prog-2.ensures.value (c.in_ok-points.ensures {u = tt}) in
     front_shown p c.args.limits (subst IsAccepted c.prog.ensures.value c.prog.ensures.accepted) (subst AreLiteralsInRange c.prog.ensures.value c.literals_are_in_range.ensures) front (c.in_ok-front.ensures {u = tt}).made true
-    homes (c.of-homes.ensures ∙ ap (placed_homes true front.placed) c.as_slice-lives.ensures) points its refl c.in_ok-image.image (c.in_ok-image.ensures {u = tt})
+    homes (c.of-homes.ensures ∙ ap (placed_homes true front.slots front.placed) c.as_slice-lives.ensures) points its refl c.in_ok-image.image (c.in_ok-image.ensures {u = tt})
 
 pub returns-clause-lists : goal.returns-clause-lists
 returns-clause-lists c =
@@ -85,4 +85,4 @@ returns-clause-lists c =
     let points = c.in_ok-points.points in
     let its : ArePointsOf (homes_of homes) (entry_at homes front.slots) p points = subst (λ q. ArePointsOf (homes_of homes) (entry_at homes front.slots) q points) c.prog-2.ensures.value (c.in_ok-points.ensures {u = tt}) in
     front_listed p c.args.limits (subst IsAccepted c.prog.ensures.value c.prog.ensures.accepted) (subst AreLiteralsInRange c.prog.ensures.value c.literals_are_in_range.ensures) front (c.in_ok-front.ensures {u = tt}).made true
-    homes (c.of-homes.ensures ∙ ap (placed_homes true front.placed) c.as_slice-lives.ensures) points its
+    homes (c.of-homes.ensures ∙ ap (placed_homes true front.slots front.placed) c.as_slice-lives.ensures) points its

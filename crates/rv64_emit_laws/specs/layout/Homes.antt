@@ -1,7 +1,7 @@
 -- The words of a frame, the homes of a function's slots, and the moves between them.
 --
--- A frame is words of 64 bits from the address in register 2 on: word 0 is the way back, a pc in bytes, word 1 the caller's
--- register 2, and word 2 + j the own word of slot j. What is kept of the slots as they were at open speculation l, from 1, stands
+-- A frame is words of 64 bits from the address in register 2 on: word 0 is the way back, a pc in bytes, word 1 is
+-- free, and word 2 + j is the own word of slot j. What is kept of the slots as they were at open speculation l, from 1, stands
 -- in as many words after those of the speculation before it.
 use Rattle.std.specs.Prelude.{◌≡◌, ℕ, suc, ◌+◌, ◌*◌, ◌==◌, ◌&&◌, Bool, true, false, not, nat_lt, if◌then◌else◌, List, [], ◌∷◌, length, Option, Some, None, slice_index}
 use Rattle.bril_tree.specs.declared.home.Home.{Home}
@@ -27,12 +27,16 @@ depth_at g point = slice_index g.depths point
 
 -- ---- homes
 
--- Of one function: where each slot is, whether a speculation of a level, from 1, keeps it, and whether it is live at a point; and
--- whether items are marked, which then have a word each, also those for which nothing is to be done, but for labels and `nop`.
+-- Of one function: where each slot is, whether a speculation of a level, from 1, keeps it, and whether it is live at a point;
+-- where a function has its argument of a number, from 0, as it begins, if it is live there; whether this one is a leaf, which calls no
+-- function, so that its way back stays in register 1; and whether items are marked, which then have a word each, also those for which
+-- nothing is to be done, but for labels and `nop`.
 pub record FunctionHomes : Type 0 where
   pub home : Slot → Home
   pub saved : ℕ → Slot → Bool
   pub live : ℕ → Slot → Bool
+  pub given : (function argument : ℕ) → Option Home
+  pub leaf : Bool
   pub marked : Bool
 
 -- items are marked in all functions
@@ -41,6 +45,14 @@ AreMarked homes = (f : ℕ) → (homes f).marked ≡ true
 
 abbrev pub variable_home : FunctionHomes → ℕ → Home
 variable_home homes x = homes.home (Variable x)
+
+-- where a function has an argument, by its own homes
+abbrev pub given_home : FunctionHomes → ℕ → Option Home
+given_home homes k = if homes.live 0 (Variable k) then Some (variable_home homes k) else None
+
+-- word k of the slots of a frame that is made next, as a word of this frame
+abbrev pub argument_word : SlotFunction → ℕ → ℕ
+argument_word g k = g.words + (frame_head + k)
 
 -- ---- moves
 
@@ -91,7 +103,7 @@ outlives homes point dest slot = in_register (homes.home slot) && (homes.live (s
 abbrev pub call_moves : FunctionHomes → SlotFunction → ℕ → Option ℕ → List Move
 call_moves homes g point dest = moves_of homes g frame_head (outlives homes point dest)
 
--- what a function loads as it begins: the arguments, which come in the frame, whose homes are registers
+-- the arguments that are in registers as a function begins: those of `main` come from its frame
 abbrev pub is_loaded : FunctionHomes → SlotFunction → Slot → Bool
 is_loaded homes g slot = in_register (homes.home slot) && (is_argument g slot && homes.live 0 slot)
 

@@ -1,21 +1,21 @@
 -- The image of code over slots, by the homes of each function's slots: where its items begin, its words, its guards and its stack.
-use Rattle.std.specs.Prelude.{◌≡◌, ℕ, zero, suc, ◌+◌, ◌-◌, ◌*◌, List, [], ◌∷◌, ◌++◌, length, map, Option, Some, None, slice_get, pos}
+use Rattle.std.specs.Prelude.{◌≡◌, ℕ, zero, suc, ◌+◌, ◌-◌, ◌*◌, List, [], ◌∷◌, ◌++◌, length, map, Option, Some, None, slice_get}
 use Rattle.bril_tree.specs.declared.limits.Limits.{Limits}
 use Rattle.program_numbers.specs.ProgramNumbers.{greatest}
 use Rattle.rv64_words.specs.declared.image.GuardAt.{GuardAt}
 use Rattle.rv64_words.specs.declared.image.Image.{Image}
 use Rattle.rv64_words.specs.declared.word.Word.{Word}
-use Rattle.rv64_words.specs.declared.word.Word.TheVariants.{Lui, Jal, Sd}
+use Rattle.rv64_words.specs.declared.word.Word.TheVariants.{Lui, Jal}
 use Rattle.rv64_words.specs.Encoding.{encoded}
 use Rattle.rv64_words.specs.Mnemonics.{addi}
 use Rattle.slot_code.specs.declared.item.SlotItem.{SlotItem}
 use Rattle.slot_code.specs.declared.item.SlotItem.TheVariants.{Guard}
 use Rattle.slot_code.specs.declared.slots.SlotFunction.{SlotFunction}
 use Rattle.slot_code.specs.declared.slots.Slots.{Slots}
-use Rattle.rv64_words_laws.specs.sequences.Moves.{restore_size, restore_words}
+use Rattle.rv64_words_laws.specs.sequences.Moves.{Move, restore_size, restore_words}
 use Rattle.rv64_words_laws.specs.sequences.Sequences.{high_part, low_part, fault_words, jump_offset}
 use Rattle.rv64_emit_laws.specs.layout.Homes.{FunctionHomes, opening_moves}
-use Rattle.rv64_emit_laws.specs.layout.Items.{item_size, item_words, guard_front_size, leave_words}
+use Rattle.rv64_emit_laws.specs.layout.Items.{item_size, item_words, guard_front_size, keep_way_size, keep_way_words, leave_size, leave_words}
 
 -- the sum of what a function gives for the numbers below n
 abbrev pub sum_below : (ℕ → ℕ) → ℕ → ℕ
@@ -37,32 +37,39 @@ size_or_none homes g point (Some item) = item_size homes g point item
 abbrev pub size_at : FunctionHomes → SlotFunction → ℕ → ℕ
 size_at homes g point = size_or_none homes g point (slice_get g.code point)
 
--- how many words of a function come before its first item: one keeps the way back, and then arguments are loaded
-abbrev pub opening_size : FunctionHomes → SlotFunction → ℕ
-opening_size homes g = 1 + restore_size (opening_moves homes g)
-
--- how many words of a function come before the item at a point
+-- how many words of a function come before the item at a point: those that keep the way back, and those of the items before
 abbrev pub words_before : FunctionHomes → SlotFunction → ℕ → ℕ
-words_before homes g point = opening_size homes g + sum_below (size_at homes g) point
+words_before homes g point = keep_way_size homes + sum_below (size_at homes g) point
 
--- how many words a function has, with the four that leave it
+-- how many words a function has, with those that leave it
 abbrev pub function_size : FunctionHomes → SlotFunction → ℕ
-function_size homes g = words_before homes g (length g.code) + 4
+function_size homes g = words_before homes g (length g.code) + leave_size homes
 
 abbrev pub function_size_or_none : FunctionHomes → Option SlotFunction → ℕ
 function_size_or_none homes None = 0
 function_size_or_none homes (Some g) = function_size homes g
 
--- the word at which the program ends, and that at which the first function begins
-abbrev pub end_start : ℕ
-end_start = 3
+abbrev pub opening_or_none : FunctionHomes → Option SlotFunction → List Move
+opening_or_none homes None = []
+opening_or_none homes (Some g) = opening_moves homes g
 
-abbrev pub first_start : ℕ
-first_start = 6
+-- by which the arguments of `main` come from its frame into registers, and how many words that takes
+abbrev pub main_moves : (ℕ → FunctionHomes) → Slots → List Move
+main_moves homes slots = opening_or_none (homes slots.main) (slice_get slots.funcs slots.main)
+
+abbrev pub main_size : (ℕ → FunctionHomes) → Slots → ℕ
+main_size homes slots = restore_size (main_moves homes slots)
+
+-- the word at which the program ends, and that at which the first function begins
+abbrev pub end_start : (ℕ → FunctionHomes) → Slots → ℕ
+end_start homes slots = 3 + main_size homes slots
+
+abbrev pub first_start : (ℕ → FunctionHomes) → Slots → ℕ
+first_start homes slots = 6 + main_size homes slots
 
 -- the word at which a function begins
 abbrev pub start_at : (ℕ → FunctionHomes) → Slots → ℕ → ℕ
-start_at homes slots f = first_start + sum_below (λ k. function_size_or_none (homes k) (slice_get slots.funcs k)) f
+start_at homes slots f = first_start homes slots + sum_below (λ k. function_size_or_none (homes k) (slice_get slots.funcs k)) f
 
 abbrev pub words_before_in : FunctionHomes → Option SlotFunction → ℕ → ℕ
 words_before_in homes None point = 0
@@ -74,15 +81,12 @@ entry_at homes slots f point = start_at homes slots f + words_before_in (homes f
 
 -- ---- the words
 
--- The first words: register 8 has how many frames may be made beside that of `main`, `main` is called, and the program ends
--- where it returns.
-abbrev pub head_words : Limits → ℕ → List Word
-head_words limits main =
-    Lui 8 (high_part (limits.frames - 1)) ∷ addi 8 8 (low_part (limits.frames - 1)) ∷ Jal 1 (jump_offset 2 main) ∷ fault_words 0
-
--- the first words of a function
-abbrev pub opening_words : FunctionHomes → SlotFunction → List Word
-opening_words homes g = Sd 2 1 (pos 0) ∷ restore_words (opening_moves homes g)
+-- The first words: register 8 has how many frames may be made beside that of `main`, its arguments come into registers, `main` is
+-- called, and the program ends where it returns.
+abbrev pub head_words : Limits → List Move → ℕ → List Word
+head_words limits moves main =
+    Lui 8 (high_part (limits.frames - 1)) ∷ addi 8 8 (low_part (limits.frames - 1)) ∷
+    (restore_words moves ++ Jal 1 (jump_offset (2 + restore_size moves) main) ∷ fault_words 0)
 
 module _ (homes : ℕ → FunctionHomes) (slots : Slots) (f : ℕ) (g : SlotFunction) where
   abbrev pub item_words_or_none : ℕ → Option SlotItem → List Word
@@ -94,7 +98,7 @@ module _ (homes : ℕ → FunctionHomes) (slots : Slots) (f : ℕ) (g : SlotFunc
   item_words_at point = item_words_or_none point (slice_get g.code point)
 
   abbrev pub function_words : List Word
-  function_words = opening_words (homes f) g ++ (joined item_words_at (length g.code) ++ leave_words)
+  function_words = keep_way_words (homes f) ++ (joined item_words_at (length g.code) ++ leave_words (homes f))
 
 abbrev pub function_words_or_none : (ℕ → FunctionHomes) → Slots → ℕ → Option SlotFunction → List Word
 function_words_or_none homes slots f None = []
@@ -104,7 +108,7 @@ abbrev pub function_words_at : (ℕ → FunctionHomes) → Slots → ℕ → Lis
 function_words_at homes slots f = function_words_or_none homes slots f (slice_get slots.funcs f)
 
 abbrev pub image_words : (ℕ → FunctionHomes) → Slots → Limits → List Word
-image_words homes slots limits = head_words limits (start_at homes slots slots.main) ++ joined (function_words_at homes slots) (length slots.funcs)
+image_words homes slots limits = head_words limits (main_moves homes slots) (start_at homes slots slots.main) ++ joined (function_words_at homes slots) (length slots.funcs)
 
 -- ---- the guards
 

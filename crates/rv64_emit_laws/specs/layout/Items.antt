@@ -11,13 +11,12 @@ use Rattle.bril_tree.specs.declared.home.Home.TheVariants.{Reg, Frame}
 use Rattle.bril_tree.specs.declared.operators.BinaryOp.{BinaryOp}
 use Rattle.bril_tree.specs.declared.operators.UnaryOp.{UnaryOp}
 use Rattle.bril_tree.specs.declared.operators.UnaryOp.TheVariants as unary
-use Rattle.bril_tree.specs.FrameWords.{frame_head}
 use Rattle.bril_tree.specs.Value.{word_of}
 use Rattle.rv64_words.specs.declared.word.Word.{Word}
 use Rattle.rv64_words.specs.declared.word.Condition.{Condition}
 use Rattle.rv64_words.specs.declared.word.Condition.TheVariants as tests
 use Rattle.rv64_words.specs.declared.word.Word.TheVariants as words
-use Rattle.rv64_words.specs.declared.word.Word.TheVariants.{Jal, Jalr, Ld, Ecall}
+use Rattle.rv64_words.specs.declared.word.Word.TheVariants.{Jal, Jalr, Ld, Sd, Ecall}
 use Rattle.rv64_words.specs.Mnemonics.{addi, beq, bne}
 use Rattle.slot_code.specs.declared.item.Printed.{Printed}
 use Rattle.slot_code.specs.declared.item.SlotItem.{SlotItem}
@@ -25,8 +24,9 @@ use Rattle.slot_code.specs.declared.item.SlotItem.TheVariants.{Pass, Constant, C
 use Rattle.slot_code.specs.declared.slots.SlotFunction.{SlotFunction}
 use Rattle.rv64_words_laws.specs.sequences.Operations.{unary_takes_any, unary_words, binary_takes_any, binary_words, alloc_words, free_words, cell_words, load_cell_words, mark_cell_words, store_cell_words, unary_size, binary_size}
 use Rattle.rv64_words_laws.specs.sequences.Moves.{register_for, source_words, source_size, target_words, target_size, copy_words, copy_size, operand_register, operand_words, operand_size, result_register, result_words, result_size, fetch_words, fetch_size, fill_words, fill_size, save_words, save_size, restore_words, restore_size}
-use Rattle.rv64_words_laws.specs.sequences.Sequences.{constant_words, store_words, fault_words, jump_offset, frame_up_words, constant_size, store_size, frame_up_size}
+use Rattle.rv64_words_laws.specs.sequences.Sequences.{constant_words, fault_words, jump_offset, frame_by_words, bytes_up, bytes_down, constant_size, frame_by_size}
 use Rattle.rv64_emit_laws.specs.layout.Homes.{FunctionHomes, variable_home, call_moves, guard_moves, speculate_moves}
+use Rattle.rv64_emit_laws.specs.layout.Passing.{pass_words, pass_size}
 use Rattle.rv64_emit_laws.specs.layout.Reach.{is_in_reach}
 
 -- ---- items for which nothing is to be done
@@ -64,27 +64,11 @@ copied_words homes dest from = if same_home dest from then mark_words homes else
 abbrev pub copied_size : FunctionHomes → (dest from : Home) → ℕ
 copied_size homes dest from = if same_home dest from then mark_size homes else copy_size dest from
 
--- ---- the frame
-
--- word k of the slots of a frame that is made next, as a word of this frame
-abbrev pub argument_word : SlotFunction → ℕ → ℕ
-argument_word g k = g.words + (frame_head + k)
-
 -- ---- calls and returns
 
 -- the fault Frames where no frame may be made, else one less may be
 abbrev pub room_words : List Word
 room_words = bne 8 0 (pos 16) ∷ (fault_words 8 ++ addi 8 8 (negsuc 0) ∷ [])
-
--- the arguments, from argument k on, into their slots of the new frame
-abbrev pub pass_words : FunctionHomes → SlotFunction → ℕ → List ℕ → List Word
-pass_words homes g k [] = []
-pass_words homes g k (a ∷ args) =
-    source_words 5 (variable_home homes a) ++ (store_words (register_for 5 (variable_home homes a)) (argument_word g k) ++ pass_words homes g (suc k) args)
-
-abbrev pub pass_size : FunctionHomes → SlotFunction → ℕ → List ℕ → ℕ
-pass_size homes g k [] = 0
-pass_size homes g k (a ∷ args) = source_size (variable_home homes a) + (store_size (argument_word g k) + pass_size homes g (suc k) args)
 
 -- the result, which comes in register 10, into its destination
 abbrev pub call_result_words : FunctionHomes → Option ℕ → List Word
@@ -96,26 +80,45 @@ call_result_size homes None = 0
 call_result_size homes (Some x) = fill_size (variable_home homes x)
 
 -- how many words of the call at a point come before its jump
-abbrev pub before_call : FunctionHomes → SlotFunction → ℕ → Option ℕ → List ℕ → ℕ
-before_call homes g point dest args = 5 + (save_size (call_moves homes g point dest) + (pass_size homes g 0 args + frame_up_size g.words))
+abbrev pub before_call : FunctionHomes → SlotFunction → ℕ → Option ℕ → ℕ → List ℕ → ℕ
+before_call homes g point dest function args = 5 + (save_size (call_moves homes g point dest) + (pass_size homes g function args + frame_by_size (bytes_up g.words)))
 
--- the words after its jump: registers get back what the call kept, and the destination gets the result
+-- the words after its jump: the caller's frame is the frame again, registers get back what the call kept, and the destination gets
+-- the result
 abbrev pub after_call : FunctionHomes → SlotFunction → ℕ → Option ℕ → List Word
-after_call homes g point dest = restore_words (call_moves homes g point dest) ++ call_result_words homes dest
+after_call homes g point dest =
+    frame_by_words (bytes_down g.words) ++ (restore_words (call_moves homes g point dest) ++ call_result_words homes dest)
 
--- a call of the function at word `start`; the call itself begins at word `here`
-abbrev pub call_words : FunctionHomes → SlotFunction → (point here : ℕ) → Option ℕ → (start : ℕ) → List ℕ → List Word
-call_words homes g point here dest start args =
-    room_words ++ (save_words (call_moves homes g point dest) ++ (pass_words homes g 0 args ++ (frame_up_words g.words
-    ++ Jal 1 (jump_offset (here + before_call homes g point dest args) start) ∷ after_call homes g point dest)))
+abbrev pub after_call_size : FunctionHomes → SlotFunction → ℕ → Option ℕ → ℕ
+after_call_size homes g point dest =
+    frame_by_size (bytes_down g.words) + (restore_size (call_moves homes g point dest) + call_result_size homes dest)
+
+-- a call of the function of a number, which begins at word `start`; the call itself begins at word `here`
+abbrev pub call_words : FunctionHomes → SlotFunction → (point here : ℕ) → Option ℕ → (function start : ℕ) → List ℕ → List Word
+call_words homes g point here dest function start args =
+    room_words ++ (save_words (call_moves homes g point dest) ++ (pass_words homes g function args ++ (frame_by_words (bytes_up g.words)
+    ++ Jal 1 (jump_offset (here + before_call homes g point dest function args) start) ∷ after_call homes g point dest)))
 
 -- the word to which the called function returns
-abbrev pub return_word : FunctionHomes → SlotFunction → (point here : ℕ) → Option ℕ → List ℕ → ℕ
-return_word homes g point here dest args = here + before_call homes g point dest args + 1
+abbrev pub return_word : FunctionHomes → SlotFunction → (point here : ℕ) → Option ℕ → ℕ → List ℕ → ℕ
+return_word homes g point here dest function args = here + before_call homes g point dest function args + 1
+
+-- the way back into its word of the frame, and from there, but for a leaf
+abbrev pub keep_way_words : FunctionHomes → List Word
+keep_way_words homes = if homes.leaf then [] else Sd 2 1 (pos 0) ∷ []
+
+abbrev pub take_way_words : FunctionHomes → List Word
+take_way_words homes = if homes.leaf then [] else Ld 1 2 (pos 0) ∷ []
+
+abbrev pub keep_way_size : FunctionHomes → ℕ
+keep_way_size homes = if homes.leaf then 0 else 1
 
 -- the end of a function: one frame more may be made, and control goes to the caller's next word
-abbrev pub leave_words : List Word
-leave_words = Ld 1 2 (pos 0) ∷ Ld 2 2 (pos 8) ∷ addi 8 8 (pos 1) ∷ Jalr 0 1 (pos 0) ∷ []
+abbrev pub leave_words : FunctionHomes → List Word
+leave_words homes = take_way_words homes ++ addi 8 8 (pos 1) ∷ Jalr 0 1 (pos 0) ∷ []
+
+abbrev pub leave_size : FunctionHomes → ℕ
+leave_size homes = keep_way_size homes + 2
 
 -- the returned value into register 10
 abbrev pub returned_words : FunctionHomes → Option ℕ → List Word
@@ -251,8 +254,8 @@ item_size homes g point (Binary operation dest first second) = binary_item_size 
 item_size homes g point (Jump to) = jump_size homes point to
 item_size homes g point (Branch condition then_to else_to) = source_size (variable_home homes condition) + branch_size g point then_to else_to
 item_size homes g point (Call dest function args) =
-    before_call homes g point dest args + (1 + (restore_size (call_moves homes g point dest) + call_result_size homes dest))
-item_size homes g point (Return value) = returned_size homes value + 4
+    before_call homes g point dest function args + (1 + after_call_size homes g point dest)
+item_size homes g point (Return value) = returned_size homes value + leave_size homes
 item_size homes g point (Print args) = print_size homes args
 item_size homes g point (Alloc dest count) = fetch_size (variable_home homes count) + (2 + fill_size (variable_home homes dest))
 item_size homes g point (Free pointer) = fetch_size (variable_home homes pointer) + 2
@@ -279,8 +282,8 @@ module _ (homes : FunctionHomes) (start entry : ℕ → ℕ) (g : SlotFunction) 
   item_words (Branch condition then_to else_to) =
       let home = variable_home homes condition in
       source_words 5 home ++ branch_words g entry point (here + source_size home) (register_for 5 home) then_to else_to
-  item_words (Call dest function args) = call_words homes g point here dest (start function) args
-  item_words (Return value) = returned_words homes value ++ leave_words
+  item_words (Call dest function args) = call_words homes g point here dest function (start function) args
+  item_words (Return value) = returned_words homes value ++ leave_words homes
   item_words (Print args) = print_words homes args
   item_words (Alloc dest count) = fetch_words 10 (variable_home homes count) ++ (alloc_words ++ fill_words 10 (variable_home homes dest))
   item_words (Free pointer) = fetch_words 10 (variable_home homes pointer) ++ free_words

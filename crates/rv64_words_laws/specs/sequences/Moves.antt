@@ -144,9 +144,11 @@ abbrev pub IsUsable : Home → Type 0
 IsUsable (Reg r) = IsTrue (is_home_register r)
 IsUsable (Frame o) = Unit {0}
 
--- all but registers and the stack is as it was, and so are the registers of the frame and of the frames that are left
+-- all but registers and the stack is as it was, and so are the registers of the way back, of the frame and of the frames that are
+-- left
 pub record KeepsRest (c e : Core) : Type 0 where
   pub zero_register : e.registers 0 ≡ c.registers 0
+  pub link_register : e.registers 1 ≡ c.registers 1
   pub frame_register : e.registers 2 ≡ c.registers 2
   pub frames_left : e.registers 8 ≡ c.registers 8
   pub table : e.table ≡ c.table

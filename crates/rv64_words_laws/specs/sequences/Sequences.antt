@@ -98,11 +98,18 @@ jump_offset a b = if nat_le a b then pos (4 * (b - a)) else negsuc (4 * (a - b) 
 
 -- ---- frames
 
--- The frame so many words above becomes the frame: its word 1 gets the base of the old one, and register 2 its own.
-abbrev pub frame_up_words : ℕ → List Word
-frame_up_words wide =
-    if nat_lt wide 255 then Sd 2 2 (pos (8 * (wide + 1))) ∷ addi 2 2 (pos (8 * wide)) ∷ []
-    else Lui 7 (high_part (8 * wide)) ∷ add 7 7 2 ∷ addi 7 7 (low_part (8 * wide)) ∷ Sd 7 2 (pos 8) ∷ addi 2 7 (pos 0) ∷ []
+-- Register 2 grows by a number of bytes, modulo 2^64: by ADDI, or with a number of 32 bits in register 7.
+abbrev pub frame_by_words : ℕ → List Word
+frame_by_words n =
+    if fits_12 n then addi 2 2 (low_part n) ∷ []
+    else Lui 7 (high_part n % 2 ^ 20) ∷ addi 7 7 (low_part n) ∷ add 2 2 7 ∷ []
 
-abbrev pub frame_up_size : ℕ → ℕ
-frame_up_size wide = if nat_lt wide 255 then 2 else 5
+abbrev pub frame_by_size : ℕ → ℕ
+frame_by_size n = if fits_12 n then 1 else 3
+
+-- the frame so many words above becomes the frame, and from there the one below again
+abbrev pub bytes_up : ℕ → ℕ
+bytes_up wide = 8 * wide
+
+abbrev pub bytes_down : ℕ → ℕ
+bytes_down wide = (2 ^ 64 - 8 * wide) % 2 ^ 64

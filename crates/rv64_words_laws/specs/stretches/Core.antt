@@ -98,10 +98,11 @@ without_block block c = record c { table = assigned c.table (2 * block + 1) 0 }
 
 -- ---- what stays
 
--- What the code between frames relies on is as it was: registers 0, 2 and 8, those in which locations may be, memory, and what
+-- What the code between frames relies on is as it was: registers 0, 1, 2 and 8, those in which locations may be, memory, and what
 -- can be seen from outside. Other registers may have changed.
 pub record Keeps (c e : Core) : Type 0 where
   pub zero_register : e.registers 0 ≡ c.registers 0
+  pub link_register : e.registers 1 ≡ c.registers 1
   pub frame_register : e.registers 2 ≡ c.registers 2
   pub frames_left : e.registers 8 ≡ c.registers 8
   pub homes : (r : ℕ) → IsTrue (is_home_register r) → e.registers r ≡ c.registers r
@@ -113,9 +114,10 @@ pub record Keeps (c e : Core) : Type 0 where
   pub printed : e.printed ≡ c.printed
   pub arrivals : e.arrivals ≡ c.arrivals
 
--- The same, but for one register, which isn't 0, 2 or 8.
+-- The same, but for one register, which isn't 0, 1, 2 or 8.
 pub record KeepsBut (d : ℕ) (c e : Core) : Type 0 where
   pub zero_register : e.registers 0 ≡ c.registers 0
+  pub link_register : e.registers 1 ≡ c.registers 1
   pub frame_register : e.registers 2 ≡ c.registers 2
   pub frames_left : e.registers 8 ≡ c.registers 8
   pub homes : (r : ℕ) → IsTrue (is_home_register r) → r ≢ d → e.registers r ≡ c.registers r

@@ -1,25 +1,17 @@
-use Rattle.std.proofs.Common.{◌≡◌, ◌+◌, length, map, sym, ap, ◌∙◌, subst, arith}
+use Rattle.std.proofs.Common.{◌≡◌, ◌+◌, length, map, sym, ap, ◌∙◌, arith}
 use Rattle.std.specs.List.{range_with_len}
-use Rattle.rv64_emit_laws.specs.layout.Image.{entry_at, opening_size}
+use Rattle.rv64_emit_laws.specs.layout.Image.{entry_at}
+use Rattle.rv64_emit_laws.specs.layout.Items.{keep_way_size}
 use Rattle.rv64_emit_laws.proofs.lemmas.layout.Placing.{entry_is}
-use Rattle.rv64_emit.specs.Moved.{AreMovable}
 use Rattle.rv64_emit.specs.Placed.{all_homes, homes_in}
 use Rattle.rv64_emit.specs.Tables.{item_count}
 use Rattle.rv64_emit.proofs.Placed.{turn, function_few, table_next}
 use Rattle.rv64_emit.proofs.places.entry_table.Goals as goal
 
-pub opening_size_of-requires-clause-movable : goal.opening_size_of-requires-clause-movable
-opening_size_of-requires-clause-movable c = subst (λ own. AreMovable own c.function_at-func.result.now) (sym c.in_function-own.ensures) (c.requires.fits.movable c.args.number c.function_at-func.result.now c.function_at-func.ensures)
-
-pub opening_size_of-requires-clause-few : goal.opening_size_of-requires-clause-few
-opening_size_of-requires-clause-few c =
-    let few = function_few (all_homes c.args.homes.now) c.args.slots.now c.requires.fits c.args.number c.function_at-func.result.now (homes_in c.in_function-own.result) c.function_at-func.ensures c.in_function-own.ensures in
-    omega arith
-
 pub overflow_add-at : goal.overflow_add-at
 overflow_add-at c =
     let few = function_few (all_homes c.args.homes.now) c.args.slots.now c.requires.fits c.args.number c.function_at-func.result.now (homes_in c.in_function-own.result) c.function_at-func.ensures c.in_function-own.ensures in
-    omega (arith, c.requires.start, c.opening_size_of.ensures)
+    omega (arith, c.requires.start, c.keep_way_size_of.ensures.value)
 
 pub size_of-at-requires-clause-movable : goal.size_of-at-requires-clause-movable
 size_of-at-requires-clause-movable c =
@@ -44,9 +36,9 @@ overflow_add-at-in-loop-point c =
 pub loop-point-init : goal.loop-point-init
 loop-point-init c =
     let homes = all_homes c.args.homes.now in
-    let size : opening_size (homes_in c.in_function-own.result) c.function_at-func.result.now ≡ opening_size (homes c.args.number) c.function_at-func.result.now = ap (λ own. opening_size own c.function_at-func.result.now) c.in_function-own.ensures in (
+    let size : keep_way_size (homes_in c.in_function-own.result) ≡ keep_way_size (homes c.args.number) = ap keep_way_size c.in_function-own.ensures in (
       c.new-entries.ensures,
-      omega (arith, c.requires.start, c.opening_size_of.ensures, size, entry_is homes c.args.slots.now c.args.number c.function_at-func.result.now 0 c.function_at-func.ensures),
+      omega (arith, c.requires.start, c.keep_way_size_of.ensures.value, size, entry_is homes c.args.slots.now c.args.number c.function_at-func.result.now 0 c.function_at-func.ensures),
     )
 
 pub loop-point-preserved : goal.loop-point-preserved

@@ -1,5 +1,5 @@
 -- How many words items, functions and images have at most.
-use Rattle.std.proofs.Common.{◌≡◌, ℕ, zero, suc, ◌+◌, ◌*◌, ◌<◌, ◌≤◌, Bool, true, false, cond, List, [], ◌∷◌, length, Option, Some, None, refl, sym, ap, ◌∙◌, arith}
+use Rattle.std.proofs.Common.{◌≡◌, ℕ, zero, suc, ◌+◌, ◌*◌, ◌<◌, ◌≤◌, Bool, true, false, cond, eqb, List, [], ◌∷◌, length, Option, Some, None, refl, sym, ap, ◌∙◌, arith}
 use Rattle.std.specs.Prelude.{slice_get, option_map}
 use Rattle.std.specs.List.{sum_by}
 use Rattle.std.proofs.lemmas.List.{length-map}
@@ -30,13 +30,14 @@ use Rattle.slot_code.specs.declared.slots.Slots.{Slots}
 use Rattle.slot_code.specs.Lowered.{IsLowered, IsLoweredFunction, lowered_action, lowered_item, printed_as}
 use Rattle.rv64_words_laws.specs.sequences.Operations.{unary_size, binary_size, binary_takes_any}
 use Rattle.rv64_words_laws.specs.sequences.Moves.{Move, copy_size, save_one_size, save_size, restore_one_size, restore_size}
-use Rattle.rv64_words_laws.specs.sequences.Sequences.{constant_size, frame_up_size, fits_12, fits_32}
+use Rattle.rv64_words_laws.specs.sequences.Sequences.{constant_size, frame_by_size, bytes_up, bytes_down, fits_12, fits_32}
 pub use Rattle.rv64_words_laws.proofs.lemmas.sequences.Sizes.{load_most, store_most, fetch_most, fill_most, source_most, target_most, operand_most, result_most, copy_most}
-use Rattle.rv64_emit_laws.specs.layout.Homes.{FunctionHomes, variable_home, moves_from, moves_of, guard_moves, speculate_moves}
-use Rattle.rv64_emit_laws.specs.layout.Image.{sum_below, size_or_none, size_at, function_size, function_size_or_none, start_at}
-use Rattle.rv64_emit_laws.specs.layout.Items.{item_size, unary_item_size, binary_item_size, pass_size, call_result_size, returned_size, spaced_size, print_size, argument_word, branch_size, copied_size, failing_size, is_next, jump_size, mark_size, reaches_over, same_home, skip_size, way_size}
+use Rattle.rv64_emit_laws.specs.layout.Homes.{FunctionHomes, argument_word, variable_home, moves_from, moves_of, guard_moves, speculate_moves}
+use Rattle.rv64_emit_laws.specs.layout.Image.{sum_below, size_or_none, size_at, function_size, function_size_or_none, main_size, opening_or_none, start_at}
+use Rattle.rv64_emit_laws.specs.layout.Items.{item_size, unary_item_size, binary_item_size, call_result_size, returned_size, spaced_size, print_size, branch_size, copied_size, failing_size, is_next, jump_size, keep_way_size, mark_size, reaches_over, same_home, skip_size, way_size}
 use Rattle.rv64_emit_laws.specs.layout.Laid.{AreHomes, HaveHomes}
-use Rattle.rv64_emit_laws.specs.layout.Reach.{is_in_reach}
+use Rattle.rv64_emit_laws.specs.layout.Passing.{swapped, copied, comes_from, pass_copies_size, pass_loads, pass_stores, way, with_copy_size, with_load, with_store}
+use Rattle.rv64_emit_laws.specs.layout.Reach.{is_in_reach, most_size}
 use Rattle.rv64_emit_laws.proofs.lemmas.layout.Joining.{sum_below-most, sum_passes}
 pub use Rattle.rv64_emit_laws.proofs.lemmas.layout.Registers.{call_moves_most, call_moves_back_most, opening_most}
 
@@ -81,8 +82,11 @@ moves_save_most homes g first test = omega (arith, save_most (moves_of homes g f
 pub moves_restore_most : (homes : FunctionHomes) (g : SlotFunction) (first : ℕ) (test : Slot → Bool) → restore_size (moves_of homes g first test) ≤ 6 * length g.slots
 moves_restore_most homes g first test = omega (arith, restore_most (moves_of homes g first test), moves_few homes first test 0 g.slots)
 
-pub frame_up_most : (wide : ℕ) → frame_up_size wide ≤ 5
-frame_up_most wide = of_two _ 2 5 5 (omega arith) (omega arith)
+pub frame_by_most : (n : ℕ) → frame_by_size n ≤ 3
+frame_by_most n = of_two (fits_12 n) 1 3 3 (omega arith) (omega arith)
+
+pub keep_way_most : (homes : FunctionHomes) → keep_way_size homes ≤ 1
+keep_way_most homes = of_two homes.leaf 0 1 1 (omega arith) (omega arith)
 
 way_most : (g : SlotFunction) (point to : ℕ) → way_size g point to ≤ 2
 way_most g point to = of_two (is_in_reach g point to) 1 2 2 (omega arith) (omega arith)
@@ -108,9 +112,30 @@ skip_most count = of_two _ 1 2 2 (omega arith) (omega arith)
 pub skip_some : (count : ℕ) → 1 ≤ skip_size count
 skip_some count = some_of_two (reaches_over count) 1 2 (omega arith) (omega arith)
 
-pub pass_most : (homes : FunctionHomes) (g : SlotFunction) (k : ℕ) (args : List ℕ) → pass_size homes g k args ≤ 6 * length args
-pass_most homes g k [] = omega arith
-pass_most homes g k (a ∷ args) = omega (arith, source_most (variable_home homes a), store_most (argument_word g k), pass_most homes g (suc k) args)
+-- what one argument adds
+module _ (homes : FunctionHomes) (word : ℕ) (later : List ℕ) (stores loads : List Move) (copies count : ℕ) (few : save_size stores + (copies + restore_size loads) ≤ 6 * count) where
+  one_passes : (given : Option Home) (from : Home) →
+      save_size (with_store (way homes given from later) (record { home = from; word = word }) stores) + (with_copy_size (way homes given from later) copies + restore_size (with_load (way homes given from later) word loads)) ≤ 6 * suc count
+  one_passes None from = omega arith
+  one_passes (Some (Frame p)) from = omega (arith, save_one_most from word)
+  one_passes (Some (Reg r)) (Frame o) = omega (arith, load_most o)
+  one_passes (Some (Reg r)) (Reg s) = by (comes_from homes r later)
+    where
+      same : (t : Bool) → cond t copies (suc copies) ≤ suc copies
+      same true = omega arith
+      same false = omega arith
+
+      by : (t : Bool) → save_size (with_store (cond t (swapped r) (copied r s)) (record { home = Reg s; word = word }) stores)
+          + (with_copy_size (cond t (swapped r) (copied r s)) copies + restore_size (with_load (cond t (swapped r) (copied r s)) word loads)) ≤ 6 * suc count
+      by true = omega (arith, store_most word, load_most word)
+      by false = omega (arith, same (eqb r s))
+
+pub pass_most : (homes : FunctionHomes) (g : SlotFunction) (to k : ℕ) (args : List ℕ) →
+    save_size (pass_stores homes g to k args) + (pass_copies_size homes g to k args + restore_size (pass_loads homes g to k args)) ≤ 6 * length args
+pass_most homes g to k [] = omega arith
+pass_most homes g to k (a ∷ args) =
+    one_passes homes (argument_word g k) args (pass_stores homes g to (suc k) args) (pass_loads homes g to (suc k) args) (pass_copies_size homes g to (suc k) args) (length args) (pass_most homes g to (suc k) args)
+    (homes.given to k) (variable_home homes a)
 
 pub call_result_most : (homes : FunctionHomes) (dest : Option ℕ) → call_result_size homes dest ≤ 3
 call_result_most homes None = omega arith
@@ -129,26 +154,6 @@ print_most homes [] = omega arith
 print_most homes (a ∷ args) = omega (arith, fetch_most (variable_home homes a.variable), spaced_most homes args)
 
 -- ---- items
-
--- the most words of an item, in a function of so many slots
-abbrev pub most_size : ℕ → SlotItem → ℕ
-most_size slots Pass = 0
-most_size slots (Constant dest value) = 11
-most_size slots (Copy dest from) = 6
-most_size slots (Unary operation dest operand) = 6 + unary_size operation
-most_size slots (Binary operation dest first second) = 9 + binary_size operation
-most_size slots (Jump to) = 1
-most_size slots (Branch condition then_to else_to) = 6
-most_size slots (Call dest function args) = 60 + 6 * length args
-most_size slots (Return value) = 7
-most_size slots (Print args) = 2 + 7 * length args
-most_size slots (Alloc dest count) = 8
-most_size slots (Free pointer) = 5
-most_size slots (Store pointer value) = 23
-most_size slots (Load dest pointer) = 26
-most_size slots Speculate = 6 * slots + 1
-most_size slots Commit = 1
-most_size slots (Guard condition abort_to) = 6 * slots + 6
 
 pub mark_most : (homes : FunctionHomes) → mark_size homes ≤ 1
 mark_most homes = of_two homes.marked 1 0 1 (omega arith) (omega arith)
@@ -179,8 +184,8 @@ module _ (homes : FunctionHomes) (f : Func) (g : SlotFunction) (is : IsLoweredFu
   item_most (Jump to) = jump_most homes point to
   item_most (Branch condition then_to else_to) = omega (arith, source_most (variable_home homes condition), branch_most g point then_to else_to)
   item_most (Call dest function args) =
-      omega (arith, call_moves_most homes f g is are point dest, call_moves_back_most homes f g is are point dest, pass_most homes g 0 args, frame_up_most g.words, call_result_most homes dest)
-  item_most (Return value) = omega (arith, returned_most homes value)
+      omega (arith, call_moves_most homes f g is are point dest, call_moves_back_most homes f g is are point dest, pass_most homes g function 0 args, frame_by_most (bytes_up g.words), frame_by_most (bytes_down g.words), call_result_most homes dest)
+  item_most (Return value) = omega (arith, returned_most homes value, keep_way_most homes)
   item_most (Print args) = print_most homes args
   item_most (Alloc dest count) = omega (arith, fetch_most (variable_home homes count), fill_most (variable_home homes dest))
   item_most (Free pointer) = omega (arith, fetch_most (variable_home homes pointer))
@@ -246,8 +251,8 @@ instruction_at f g is point item at = by (slice_get f.code point) refl
 code_length : (f : Func) (g : SlotFunction) → IsLoweredFunction f g → length g.code ≡ length f.code
 code_length f g is = ap length is.code ∙ length-map f.code (lowered_item f)
 
-pub function_bounded : (homes : FunctionHomes) (f : Func) (g : SlotFunction) → IsLoweredFunction f g → AreHomes g homes → function_size homes g + 12 ≤ function_bound f
-function_bounded homes f g is are = omega (arith, opening_most homes f g is are, sum_below-most (size_at homes g) bounds each (length g.code), lengths, sum_of_list (word_bound locations) f.code)
+pub function_bounded : (homes : FunctionHomes) (f : Func) (g : SlotFunction) → IsLoweredFunction f g → AreHomes g homes → function_size homes g + 36 ≤ function_bound f
+function_bounded homes f g is are = omega (arith, keep_way_most homes, sum_below-most (size_at homes g) bounds each (length g.code), lengths, sum_of_list (word_bound locations) f.code)
   where
     locations : ℕ
     locations = location_count f
@@ -270,8 +275,23 @@ function_bounded homes f g is are = omega (arith, opening_most homes f g is are,
             let bound : bounds k ≡ word_bound locations w.0 = ap (count_or_none (word_bound locations)) w.1 in
             omega (arith, size, slots, instruction_bounded f locations w.0, bound)
 
-pub image_bounded : (homes : ℕ → FunctionHomes) (p : Prog) (slots : Slots) → IsLowered p slots → HaveHomes homes slots → start_at homes slots (length slots.funcs) + 26 ≤ word_bounds p
-image_bounded homes p slots is have = omega (arith, sum_below-most (λ k. function_size_or_none (homes k) (slice_get slots.funcs k)) bounds each (length slots.funcs), lengths, sum_of_list function_bound p.funcs)
+-- the function of the program of which a function of the code over slots was made
+pub function_made : (p : Prog) (slots : Slots) → IsLowered p slots → (k : ℕ) (g : SlotFunction) → slice_get slots.funcs k ≡ Some g → (f : Func) × (slice_get p.funcs k ≡ Some f) × IsLoweredFunction f g
+function_made p slots is k g e =
+    let inside : k < length p.funcs = omega (arith, slice_get_within slots.funcs k g e, zip-long IsLoweredFunction p.funcs slots.funcs is.funcs) in
+    let w = get_inside p.funcs k inside in
+    (w.0, w.1, zip-get IsLoweredFunction p.funcs slots.funcs k w.0 g is.funcs w.1 e)
+
+-- the arguments of `main` take few words
+pub main_most : (homes : ℕ → FunctionHomes) (p : Prog) (slots : Slots) → IsLowered p slots → HaveHomes homes slots → main_size homes slots ≤ 23
+main_most homes p slots is have = by (slice_get slots.funcs slots.main) refl
+  where
+    by : (o : Option SlotFunction) → slice_get slots.funcs slots.main ≡ o → restore_size (opening_or_none (homes slots.main) o) ≤ 23
+    by None e = omega arith
+    by (Some g) e = let made = function_made p slots is slots.main g e in opening_most (homes slots.main) made.0 g made.2 (have slots.main g e)
+
+pub image_bounded : (homes : ℕ → FunctionHomes) (p : Prog) (slots : Slots) → IsLowered p slots → HaveHomes homes slots → start_at homes slots (length slots.funcs) + 3 ≤ word_bounds p
+image_bounded homes p slots is have = omega (arith, main_most homes p slots is have, sum_below-most (λ k. function_size_or_none (homes k) (slice_get slots.funcs k)) bounds each (length slots.funcs), lengths, sum_of_list function_bound p.funcs)
   where
     bounds : ℕ → ℕ
     bounds = λ k. count_or_none function_bound (slice_get p.funcs k)
@@ -289,10 +309,3 @@ image_bounded homes p slots is have = omega (arith, sum_below-most (λ k. functi
             let w = get_inside p.funcs k inside in
             let bound : bounds k ≡ function_bound w.0 = ap (count_or_none function_bound) w.1 in
             omega (arith, function_bounded (homes k) w.0 g (zip-get IsLoweredFunction p.funcs slots.funcs k w.0 g is.funcs w.1 e) (have k g e), bound)
-
--- the function of the program of which a function of the code over slots was made
-pub function_made : (p : Prog) (slots : Slots) → IsLowered p slots → (k : ℕ) (g : SlotFunction) → slice_get slots.funcs k ≡ Some g → (f : Func) × (slice_get p.funcs k ≡ Some f) × IsLoweredFunction f g
-function_made p slots is k g e =
-    let inside : k < length p.funcs = omega (arith, slice_get_within slots.funcs k g e, zip-long IsLoweredFunction p.funcs slots.funcs is.funcs) in
-    let w = get_inside p.funcs k inside in
-    (w.0, w.1, zip-get IsLoweredFunction p.funcs slots.funcs k w.0 g is.funcs w.1 e)

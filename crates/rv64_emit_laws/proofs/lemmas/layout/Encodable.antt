@@ -20,7 +20,7 @@ use Rattle.rv64_emit_laws.specs.layout.Fits.{IsReached}
 use Rattle.rv64_emit_laws.specs.layout.Homes.{FunctionHomes, moves_from}
 use Rattle.rv64_emit_laws.specs.layout.Items.{branch_size, branch_words, copied_words, is_next, jump_words, mark_words, nop_word, reaches_over, same_home, skip_words, way_size, way_words}
 use Rattle.rv64_emit_laws.specs.layout.Reach.{is_in_reach}
-use Rattle.rv64_words_laws.specs.sequences.Sequences.{high_part, low_part, constant_words, load_words, store_words, frame_up_words, jump_offset, fits_12, fits_32, is_near}
+use Rattle.rv64_words_laws.specs.sequences.Sequences.{high_part, low_part, constant_words, load_words, store_words, frame_by_words, jump_offset, fits_12, fits_32, is_near}
 
 -- ---- a test of words
 
@@ -127,7 +127,7 @@ pub both : (xs ys : List Word) → AreWords xs → AreWords ys → AreWords (xs 
 both [] ys front rest = rest
 both (x ∷ xs) ys front rest = (front.0, both xs ys front.1 rest)
 
-one_of : (t : Bool) (xs ys : List Word) → (t ≡ true → AreWords xs) → (t ≡ false → AreWords ys) → AreWords (cond t xs ys)
+pub one_of : (t : Bool) (xs ys : List Word) → (t ≡ true → AreWords xs) → (t ≡ false → AreWords ys) → AreWords (cond t xs ys)
 one_of true xs ys first second = first refl
 one_of false xs ys first second = second refl
 
@@ -206,11 +206,11 @@ mark_fits homes = one_of homes.marked _ _ (λ h. words (nop_word ∷ []) refl) (
 pub copied_fits : (homes : FunctionHomes) (dest from : Home) → IsReached dest → IsReached from → AreWords (copied_words homes dest from)
 copied_fits homes dest from reached_dest reached = one_of (same_home dest from) _ _ (λ h. mark_fits homes) (λ h. copy_fits dest from reached_dest reached)
 
-save_one_fits : (home : Home) (o : ℕ) → IsReached home → IsFar o → AreWords (save_one home o)
+pub save_one_fits : (home : Home) (o : ℕ) → IsReached home → IsFar o → AreWords (save_one home o)
 save_one_fits (Reg r) o reached far = store_fits r o reached far
 save_one_fits (Frame p) o reached far = let five : 5 < 32 = omega arith in both (load_words 5 p) (store_words 5 o) (load_fits 5 p five (omega arith)) (store_fits 5 o five far)
 
-restore_one_fits : (home : Home) (o : ℕ) → IsReached home → IsFar o → AreWords (restore_one home o)
+pub restore_one_fits : (home : Home) (o : ℕ) → IsReached home → IsFar o → AreWords (restore_one home o)
 restore_one_fits (Reg r) o reached far = load_fits r o reached far
 restore_one_fits (Frame p) o reached far = let five : 5 < 32 = omega arith in both (load_words 5 o) (store_words 5 p) (load_fits 5 o five far) (store_fits 5 p five (omega arith))
 
@@ -249,13 +249,12 @@ constant_fits r n register small =
     (λ h. one_of (fits_32 n) _ _ (λ k. ((register, upper), ((register, register, low n), tt)))
     (λ k. ((register, first_upper), ((register, register, low fourth), ((register, register, twelve), ((register, register, low third), ((register, register, twelve), ((register, register, low second), ((register, register, twelve), ((register, register, low n), tt))))))))))
 
-pub frame_up_fits : (wide : ℕ) → IsFar wide → AreWords (frame_up_words wide)
-frame_up_fits wide far =
+pub frame_by_fits : (n : ℕ) → AreWords (frame_by_words n)
+frame_by_fits n =
     let two : 2 < 32 = omega arith in
     let seven : 7 < 32 = omega arith in
-    let upper : high_part (8 * wide) < 2 ^ 20 = omega arith in
-    one_of (ltb wide 255) _ _ (λ h. (let k = ltb-true wide 255 h in let first : IsImmediate (pos (8 * (wide + 1))) = (omega (arith, ints), omega (arith, ints)) in let second : IsImmediate (pos (8 * wide)) = (omega (arith, ints), omega (arith, ints)) in ((two, two, first), ((two, two, second), tt))))
-    (λ h. ((seven, upper), ((seven, seven, two), ((seven, seven, low (8 * wide)), ((seven, two, immediate (pos 8) refl), ((two, seven, immediate (pos 0) refl), tt))))))
+    let upper : high_part n % 2 ^ 20 < 2 ^ 20 = omega arith in
+    one_of (fits_12 n) _ _ (λ h. ((two, two, low n), tt)) (λ h. ((seven, upper), ((seven, seven, low n), ((two, two, seven), tt))))
 
 -- ---- jumps
 

@@ -37,11 +37,13 @@ use Rattle.slot_code.specs.Laws.{IsSlotOf, slots_used}
 use Rattle.slot_code.specs.Lowered.{IsLowered, IsLoweredFunction, lowered_action, lowered_item, open_count}
 use Rattle.slot_code.proofs.Places.{slots_are_numbered}
 use Rattle.slot_code.proofs.Uses.{items_use_slots}
+use Rattle.std.proofs.lemmas.Bool.Decides.{nat_tests}
+use Rattle.rv64_words_laws.specs.sequences.Moves.{IsUsable}
 use Rattle.rv64_emit_laws.specs.layout.Fits.{IsReached, ItemFits, HasConstantInRange, passed_by}
 use Rattle.rv64_emit_laws.specs.layout.Image.{largest_frame}
 use Rattle.rv64_emit_laws.specs.layout.Homes.{FunctionHomes, depth_at}
 use Rattle.rv64_emit_laws.specs.layout.Laid.{HaveHomes}
-use Rattle.rv64_emit_laws.proofs.lemmas.layout.Bounding.{one_of_sum, instruction_at, function_made}
+use Rattle.rv64_emit_laws.proofs.lemmas.layout.Bounding.{one_of_sum, instruction_at, function_made, item_most}
 
 -- ---- constants
 
@@ -98,6 +100,10 @@ all_of Q (slot ∷ slots) each = (each 0 slot refl, all_of Q slots (λ k s e. ea
 reached : (words : ℕ) (home : Home) → words ≤ 8388608 → IsHomeWithin words home → IsReached home
 reached words (Reg number) few within = within
 reached words (Frame word) few within = omega arith
+
+-- a register in which locations may be
+register_small : (r : ℕ) → IsUsable (Reg r) → r < 32
+register_small r is = grind (arith, nat_tests)
 
 -- ---- depths
 
@@ -193,7 +199,9 @@ module _ (p : Prog) (slots : Slots) (limits : Limits) (accepted : IsAccepted p) 
         frame = omega arith;
         levels = subst (λ n. n * (depth_at g point + 2) < 2 ^ 26) (sym lowered.count) (levels_fit locations lowered.words.depth (depth_at g point) g.words words (depth_most f g lowered point) few);
         passed = omega arith;
+        given = λ function n r at. register_small r ((have k g is_g).given function n (Reg r) at);
         constant = subst HasConstantInRange (sym w.2) (item_in_range f w.0 (All-at IsLiteralInRange f.code point w.0 (All-at (λ h. All IsLiteralInRange h.code) p.funcs k f literals made.1) w.1));
+        few = item_most (homes k) f g lowered (have k g is_g) point item;
       }
 
   -- ---- the largest frame

@@ -11,8 +11,8 @@ use Rattle.slot_code.specs.declared.item.SlotItem.TheVariants.{Pass, Constant, C
 use Rattle.slot_code.specs.declared.slots.SlotFunction.{SlotFunction}
 use Rattle.slot_code.specs.declared.slots.Slots.{Slots}
 use Rattle.rv64_emit_laws.specs.layout.Homes.{FunctionHomes}
-use Rattle.rv64_emit_laws.specs.layout.Image.{joined, opening_size, size_or_none, size_at, words_before, function_size, function_size_or_none, start_at, entry_at, guard_or_none, guard_at, function_guards_or_none, function_guards_at, image_guards}
-use Rattle.rv64_emit_laws.specs.layout.Items.{item_size, guard_front_size}
+use Rattle.rv64_emit_laws.specs.layout.Image.{joined, size_or_none, size_at, words_before, function_size, function_size_or_none, start_at, entry_at, guard_or_none, guard_at, function_guards_or_none, function_guards_at, image_guards}
+use Rattle.rv64_emit_laws.specs.layout.Items.{keep_way_size, item_size, guard_front_size}
 use Rattle.rv64_emit_laws.specs.layout.Laid.{IsGuardAt}
 use Rattle.rv64_emit_laws.proofs.lemmas.layout.Joining.{below_or, joined-most}
 use Rattle.rv64_emit_laws.proofs.lemmas.layout.Placing.{entry_is, words_pass, starts_pass}
@@ -96,7 +96,7 @@ module _ (homes : ℕ → FunctionHomes) (slots : Slots) where
 
   -- an item's words are words of its function
   pub in_function : (f point k : ℕ) (w : InItem f point k) →
-      (start_at homes slots f + opening_size (homes f) w.function ≤ k) × (k < start_at homes slots f + words_before (homes f) w.function (length w.function.code)) × (k < start_at homes slots f + function_size (homes f) w.function)
+      (start_at homes slots f + keep_way_size (homes f) ≤ k) × (k < start_at homes slots f + words_before (homes f) w.function (length w.function.code)) × (k < start_at homes slots f + function_size (homes f) w.function)
   in_function f point k w =
       let at = entry_is homes slots f w.function point w.is_function in
       let passes = words_pass (homes f) w.function point (length w.function.code) w.item w.is_item (slice_get_within w.function.code point w.item w.is_item) in

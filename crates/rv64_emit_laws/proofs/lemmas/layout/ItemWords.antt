@@ -1,5 +1,5 @@
 -- The words of an item that fits have encodings.
-use Rattle.std.proofs.Common.{◌≡◌, ℕ, suc, ◌+◌, ◌*◌, ◌^◌, ◌<◌, ◌≤◌, true, false, List, [], ◌∷◌, ◌++◌, length, map, Option, Some, None, pos, refl, arith, mul-le-mul_left}
+use Rattle.std.proofs.Common.{◌≡◌, ℕ, suc, ◌+◌, ◌*◌, ◌^◌, ◌<◌, ◌≤◌, Bool, true, false, cond, eqb, List, [], ◌∷◌, ◌++◌, length, map, Option, Some, None, pos, refl, arith, mul-le-mul_left}
 use Rattle.std.specs.List.{AllByRecursion}
 use Rattle.std.proofs.lemmas.Int.{ints}
 use Rattle.std.proofs.Math.Utf8.{scalar_fits}
@@ -15,25 +15,26 @@ use Rattle.bril_tree.specs.FrameWords.{frame_head}
 use Rattle.bril_tree.specs.FunctionForm.{listed}
 use Rattle.bril_tree.specs.Value.{IsInRange, word_of}
 use Rattle.bril_tree.specs.declared.home.Home.{Home}
+use Rattle.bril_tree.specs.declared.home.Home.TheVariants.{Reg, Frame}
 use Rattle.rv64_words.specs.declared.word.RegisterOperation.{RegisterOperation}
 use Rattle.rv64_words.specs.declared.word.RegisterOperation.TheVariants as register
-use Rattle.rv64_words.specs.declared.word.Word.TheVariants.{Ld, Sd, Op}
-use Rattle.rv64_words.specs.Mnemonics.{bne, div, sltiu}
+use Rattle.rv64_words.specs.declared.word.Word.TheVariants.{Jalr, Ld, Sd, Op}
+use Rattle.rv64_words.specs.Mnemonics.{addi, bne, div, sltiu}
 use Rattle.slot_code.specs.declared.item.Printed.{Printed}
 use Rattle.slot_code.specs.declared.item.Slot.TheVariants.{Variable}
 use Rattle.slot_code.specs.declared.item.SlotItem.{SlotItem}
 use Rattle.slot_code.specs.declared.item.SlotItem.TheVariants.{Pass, Constant, Copy, Unary, Binary, Jump, Branch, Call, Return, Print, Alloc, Free, Store, Load, Speculate, Commit, Guard}
 use Rattle.slot_code.specs.declared.slots.SlotFunction.{SlotFunction}
 use Rattle.rv64_words_laws.specs.sequences.Operations.{binary_takes_any, unary_words, binary_words, alloc_words, free_words, cell_words, load_cell_words, mark_cell_words, store_cell_words, pointer_words, int_to_char_words}
-use Rattle.rv64_words_laws.specs.sequences.Moves.{register_for, source_words, source_size, target_words, operand_register, operand_words, result_register, fetch_words, fill_words, save_words, restore_words}
-use Rattle.rv64_words_laws.specs.sequences.Sequences.{constant_words, fault_words, store_words, frame_up_words}
-use Rattle.rv64_emit_laws.specs.layout.Homes.{FunctionHomes, variable_home, depth_at, level_word, call_moves, opening_moves, speculate_moves}
-use Rattle.rv64_emit_laws.specs.layout.Image.{opening_words}
+use Rattle.rv64_words_laws.specs.sequences.Moves.{register_for, source_words, source_size, target_words, operand_register, operand_words, result_register, fetch_words, fill_words, save_one, save_words, restore_one, restore_words}
+use Rattle.rv64_words_laws.specs.sequences.Sequences.{constant_words, fault_words, frame_by_words, bytes_up, bytes_down}
+use Rattle.rv64_emit_laws.specs.layout.Homes.{FunctionHomes, variable_home, argument_word, depth_at, level_word, call_moves, speculate_moves}
 use Rattle.rv64_emit_laws.specs.layout.Fits.{IsReached, ItemFits}
-use Rattle.rv64_emit_laws.specs.layout.Items.{item_size, item_words, unary_item_words, binary_item_words, room_words, pass_words, call_result_words, leave_words, returned_words, environment_words, print_call, value_words, spaced_words, print_words, guard_front, guard_front_size, before_call, argument_word, failing_size, skip_words}
+use Rattle.rv64_emit_laws.specs.layout.Items.{item_size, item_words, unary_item_words, binary_item_words, room_words, call_result_words, keep_way_words, take_way_words, leave_words, returned_words, environment_words, print_call, value_words, spaced_words, print_words, guard_front, guard_front_size, before_call, failing_size, skip_words}
+use Rattle.rv64_emit_laws.specs.layout.Passing.{Way, swapped, copied, comes_from, pass_copies, pass_loads, pass_stores, pass_words, way, with_copy, with_load, with_store}
 use Rattle.rv64_emit_laws.specs.layout.Reach.{is_in_reach}
 use Rattle.rv64_emit_laws.proofs.lemmas.layout.Bounding.{skip_some, source_most}
-use Rattle.rv64_emit_laws.proofs.lemmas.layout.Encodable.{AreWords, words, both, immediate, branch_offset, branch_fits, store_fits, fetch_fits, fill_fits, source_fits, target_fits, register_fits, operand_fits, operand_register_fits, result_fits, copied_fits, leap_fits, mark_fits, saves_fit, restores_fit, constant_fits, frame_up_fits, jump_fits, skip_fits}
+use Rattle.rv64_emit_laws.proofs.lemmas.layout.Encodable.{AreWords, words, both, immediate, branch_offset, branch_fits, fetch_fits, fill_fits, save_one_fits, restore_one_fits, source_fits, target_fits, register_fits, operand_fits, operand_register_fits, result_fits, copied_fits, leap_fits, mark_fits, saves_fit, restores_fit, constant_fits, frame_by_fits, jump_fits, one_of, skip_fits}
 
 none : 0 < 32
 none = omega arith
@@ -112,21 +113,52 @@ store_cell_fits v from = ((seven, from, immediate (pos 8) refl), tt)
 
 -- ---- what begins a function
 
-pub opening_fits : (homes : FunctionHomes) (g : SlotFunction) → AllByRecursion (λ slot. IsReached (homes.home slot)) g.slots → length g.slots ≤ 8388608 → AreWords (opening_words homes g)
-opening_fits homes g slots few =
-    both (Sd 2 1 (pos 0) ∷ []) (restore_words (opening_moves homes g)) (words (Sd 2 1 (pos 0) ∷ []) refl) (restores_fit homes 2 _ 0 g.slots slots (omega arith))
+pub keep_way_fits : (homes : FunctionHomes) → AreWords (keep_way_words homes)
+keep_way_fits homes = one_of homes.leaf _ _ (λ h. tt) (λ h. words (Sd 2 1 (pos 0) ∷ []) refl)
+
+-- and what leaves it
+pub leave_fits : (homes : FunctionHomes) → AreWords (leave_words homes)
+leave_fits homes =
+    let last = addi 8 8 (pos 1) ∷ Jalr 0 1 (pos 0) ∷ [] in
+    both (take_way_words homes) last (one_of homes.leaf _ _ (λ h. tt) (λ h. words (Ld 1 2 (pos 0) ∷ []) refl)) (words last refl)
 
 -- ---- items
 
 -- the number of words from the first item's on
 module _ (homes : FunctionHomes) (start entry : ℕ → ℕ) (g : SlotFunction) (point here : ℕ) (starts : (f : ℕ) → start f ≤ 250000) (entries : (label : ℕ) → entry label ≤ 250000)
     (near : (to : ℕ) → is_in_reach g point to ≡ true → (entry to ≤ here + 988) × (here ≤ entry to + 988)) where
-  pass_fits : (k : ℕ) (args : List ℕ) → g.words < 2 ^ 26 → k + length args < 2 ^ 27 → AllByRecursion (λ slot. IsReached (homes.home slot)) (map Variable args) → AreWords (pass_words homes g k args)
-  pass_fits k [] frame few slots = tt
-  pass_fits k (a ∷ args) frame few slots =
-      let home = variable_home homes a in
-      both (source_words 5 home) _ (source_fits 5 home five slots.0)
-      (both (store_words (register_for 5 home) (argument_word g k)) (pass_words homes g (suc k) args) (store_fits (register_for 5 home) (argument_word g k) (register_fits 5 home five slots.0) (omega arith)) (pass_fits (suc k) args frame (omega arith) slots.1))
+  -- the words that pass arguments
+  record PassFits (to k : ℕ) (args : List ℕ) : Type 0 where
+    stores : AreWords (save_words (pass_stores homes g to k args))
+    copies : AreWords (pass_copies homes g to k args)
+    loads : AreWords (restore_words (pass_loads homes g to k args))
+
+  module _ (to k : ℕ) (args : List ℕ) (small : argument_word g k < 2 ^ 28) (rest : PassFits to (suc k) args) where
+    abbrev MoreFit : Way → Home → Type 0
+    MoreFit w from =
+        AreWords (save_words (with_store w (record { home = from; word = argument_word g k }) (pass_stores homes g to (suc k) args)))
+        × AreWords (with_copy w (pass_copies homes g to (suc k) args))
+        × AreWords (restore_words (with_load w (argument_word g k) (pass_loads homes g to (suc k) args)))
+
+    more_fits : (given : Option Home) (from : Home) → ((r : ℕ) → given ≡ Some (Reg r) → r < 32) → IsReached from → MoreFit (way homes given from args) from
+    more_fits None from registers reached = (rest.stores, rest.copies, rest.loads)
+    more_fits (Some (Frame o)) from registers reached = (both (save_one from (argument_word g k)) _ (save_one_fits from (argument_word g k) reached small) rest.stores, rest.copies, rest.loads)
+    more_fits (Some (Reg r)) (Frame o) registers reached = (rest.stores, rest.copies, both (restore_one (Reg r) o) _ (restore_one_fits (Reg r) o (registers r refl) (omega arith)) rest.loads)
+    more_fits (Some (Reg r)) (Reg s) registers reached = by (comes_from homes r args)
+      where
+        by : (t : Bool) → MoreFit (cond t (swapped r) (copied r s)) (Reg s)
+        by true = (
+          both (save_one (Reg s) (argument_word g k)) _ (save_one_fits (Reg s) (argument_word g k) reached small) rest.stores,
+          rest.copies,
+          both (restore_one (Reg r) (argument_word g k)) _ (restore_one_fits (Reg r) (argument_word g k) (registers r refl) small) rest.loads,
+        )
+        by false = (rest.stores, one_of (eqb r s) _ _ (λ e. rest.copies) (λ e. ((registers r refl, reached, omega arith), rest.copies)), rest.loads)
+
+  pass_fits : (to : ℕ) → ((j r : ℕ) → homes.given to j ≡ Some (Reg r) → r < 32) → (k : ℕ) (args : List ℕ) → g.words < 2 ^ 26 → k + length args < 2 ^ 27 → AllByRecursion (λ slot. IsReached (homes.home slot)) (map Variable args) → PassFits to k args
+  pass_fits to registers k [] frame few slots = record { stores = tt; copies = tt; loads = tt }
+  pass_fits to registers k (a ∷ args) frame few slots =
+      let more = more_fits to k args (omega arith) (pass_fits to registers (suc k) args frame (omega arith) slots.1) (homes.given to k) (variable_home homes a) (registers k) slots.0 in
+      record { stores = more.0; copies = more.1; loads = more.2 }
 
   call_result_fits : (dest : Option ℕ) (args : List ℕ) → AllByRecursion (λ slot. IsReached (homes.home slot)) (map Variable (listed dest ++ args)) → AreWords (call_result_words homes dest)
   call_result_fits None args slots = tt
@@ -184,14 +216,16 @@ module _ (homes : FunctionHomes) (start entry : ℕ → ℕ) (g : SlotFunction) 
   item_encodable (Call dest function args) fits few =
       let moves = call_moves homes g point dest in
       let room = own_fits fits.levels in
+      let passes = pass_fits function (fits.given function) 0 args fits.frame (let n = fits.passed in omega arith) (args_fit dest args fits.slots) in
       both room_words _ (words room_words refl)
       (both (save_words moves) _ (saves_fit homes 2 _ 0 g.slots fits.all_slots room)
-      (both (pass_words homes g 0 args) _ (pass_fits 0 args fits.frame (let n = fits.passed in omega arith) (args_fit dest args fits.slots))
-      (both (frame_up_words g.words) _ (frame_up_fits g.words (let n = fits.frame in omega arith)) (
-        (omega arith, jump_fits (here + before_call homes g point dest args) (start function) (omega arith) (starts function)),
-        both (restore_words moves) (call_result_words homes dest) (restores_fit homes 2 _ 0 g.slots fits.all_slots room) (call_result_fits dest args fits.slots),
+      (both (pass_words homes g function args) _ (both (save_words (pass_stores homes g function 0 args)) _ passes.stores (both (pass_copies homes g function 0 args) _ passes.copies passes.loads))
+      (both (frame_by_words (bytes_up g.words)) _ (frame_by_fits (bytes_up g.words)) (
+        (omega arith, jump_fits (here + before_call homes g point dest function args) (start function) (omega arith) (starts function)),
+        both (frame_by_words (bytes_down g.words)) _ (frame_by_fits (bytes_down g.words))
+            (both (restore_words moves) (call_result_words homes dest) (restores_fit homes 2 _ 0 g.slots fits.all_slots room) (call_result_fits dest args fits.slots)),
       ))))
-  item_encodable (Return value) fits few = both (returned_words homes value) leave_words (returned_fits value fits.slots) (words leave_words refl)
+  item_encodable (Return value) fits few = both (returned_words homes value) (leave_words homes) (returned_fits value fits.slots) (leave_fits homes)
   item_encodable (Print args) fits few = print_fits args fits.slots
   item_encodable (Alloc dest count) fits few =
       both (fetch_words 10 (variable_home homes count)) _ (fetch_fits 10 (variable_home homes count) ten fits.slots.1.0)

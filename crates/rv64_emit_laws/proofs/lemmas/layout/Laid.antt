@@ -10,34 +10,37 @@ use Rattle.rv64_image_laws.specs.WordBounds.{IsWithin}
 use Rattle.rv64_words.specs.declared.image.GuardAt.{GuardAt}
 use Rattle.rv64_words.specs.declared.image.Image.{Image}
 use Rattle.rv64_words.specs.declared.word.Word.{Word}
+use Rattle.rv64_words.specs.declared.word.Word.TheVariants.{Jal}
+use Rattle.rv64_words_laws.proofs.lemmas.stretches.Going.{HasAt-rest}
 use Rattle.rv64_words.specs.Encoding.{encoded}
 use Rattle.rv64_words.specs.Machine.{is_guard_word}
 use Rattle.rv64_words_laws.specs.stretches.Runs.{HasAt}
-use Rattle.rv64_words_laws.specs.sequences.Sequences.{fault_words, high_part}
+use Rattle.rv64_words_laws.specs.sequences.Moves.{Move, restore_size, restore_words}
+use Rattle.rv64_words_laws.specs.sequences.Sequences.{fault_words, high_part, jump_offset}
 use Rattle.slot_code.specs.declared.item.SlotItem.{SlotItem}
 use Rattle.slot_code.specs.declared.item.SlotItem.TheVariants.{Pass, Constant, Copy, Unary, Binary, Jump, Branch, Call, Return, Print, Alloc, Free, Store, Load, Speculate, Commit, Guard}
 use Rattle.slot_code.specs.declared.slots.SlotFunction.{SlotFunction}
 use Rattle.slot_code.specs.declared.slots.Slots.{Slots}
 use Rattle.slot_code.specs.Lowered.{IsLowered}
 use Rattle.rv64_emit_laws.specs.layout.Fits.{ItemFits}
-use Rattle.rv64_emit_laws.specs.layout.Homes.{FunctionHomes, opening_moves}
-use Rattle.rv64_emit_laws.specs.layout.Image.{sum_below, joined, opening_size, opening_words, size_or_none, size_at, words_before, function_size, function_size_or_none, start_at, entry_at, head_words, item_words_or_none, item_words_at, function_words, function_words_or_none, function_words_at, image_words, image_guards, IsImageOf}
-use Rattle.rv64_emit_laws.specs.layout.Items.{item_size, item_words, guard_front, guard_front_size, abort_word, leave_words}
+use Rattle.rv64_emit_laws.specs.layout.Homes.{FunctionHomes}
+use Rattle.rv64_emit_laws.specs.layout.Image.{sum_below, joined, size_or_none, size_at, words_before, function_size, function_size_or_none, start_at, entry_at, end_start, head_words, main_moves, main_size, opening_or_none, item_words_or_none, item_words_at, function_words, function_words_or_none, function_words_at, image_words, image_guards, IsImageOf}
+use Rattle.rv64_emit_laws.specs.layout.Items.{item_size, item_words, guard_front, guard_front_size, abort_word, keep_way_size, keep_way_words, leave_size, leave_words}
 use Rattle.rv64_emit_laws.specs.layout.Laid.{ItemAt, IsGuardAt, HaveHomes, IsLaid}
-use Rattle.rv64_emit_laws.proofs.lemmas.layout.Bounding.{image_bounded}
-use Rattle.rv64_emit_laws.proofs.lemmas.layout.Encodable.{AreWords, words, low, jump_fits}
+use Rattle.rv64_emit_laws.proofs.lemmas.layout.Bounding.{image_bounded, main_most}
+use Rattle.rv64_emit_laws.proofs.lemmas.layout.Encodable.{AreWords, both, words, low, jump_fits, restores_fit}
 use Rattle.rv64_emit_laws.proofs.lemmas.layout.Fitting.{all_reached, slots_few, item_fits, largest_has, largest_few}
 use Rattle.rv64_emit_laws.proofs.lemmas.layout.Guarding.{each_at, guards_are, InItem, same_function, in_function, one_item, guard_in_item, guards_apart, plain, guard_marked}
-use Rattle.rv64_emit_laws.proofs.lemmas.layout.ItemWords.{item_encodable, opening_fits}
+use Rattle.rv64_emit_laws.proofs.lemmas.layout.ItemWords.{item_encodable, keep_way_fits, leave_fits}
 use Rattle.rv64_emit_laws.proofs.lemmas.layout.Joining.{ListedAt, take_words, drop_words, listed_after, piece_listed, joined-length}
-use Rattle.rv64_emit_laws.proofs.lemmas.layout.Lengths.{item_length, guard_front_length, restore_length}
+use Rattle.rv64_emit_laws.proofs.lemmas.layout.Lengths.{item_length, guard_front_length, keep_way_length, leave_length, restore_length}
 use Rattle.rv64_emit_laws.proofs.lemmas.layout.Reaching.{entries_near}
 use Rattle.rv64_emit_laws.proofs.lemmas.layout.Placing.{entry_is, words_next, words_pass, words_at_end, starts_most, function_inside, entries_most}
 
 -- ---- lengths
 
-pub opening_length : (homes : FunctionHomes) (g : SlotFunction) → length (opening_words homes g) ≡ opening_size homes g
-opening_length homes g = omega (arith, restore_length (opening_moves homes g))
+pub head_length : (limits : Limits) (moves : List Move) (main : ℕ) → length (head_words limits moves main) ≡ 6 + restore_size moves
+head_length limits moves main = omega (arith, length-append (restore_words moves) (Jal 1 (jump_offset (2 + restore_size moves) main) ∷ fault_words 0), restore_length moves)
 
 module _ (homes : ℕ → FunctionHomes) (slots : Slots) where
   pub item_words_length : (f : ℕ) (g : SlotFunction) (point : ℕ) → length (item_words_at homes slots f g point) ≡ size_at (homes f) g point
@@ -61,9 +64,10 @@ module _ (homes : ℕ → FunctionHomes) (slots : Slots) where
       by (Some g) =
           omega (
             arith,
-            opening_length (homes f) g,
-            length-append (opening_words (homes f) g) (joined (item_words_at homes slots f g) (length g.code) ++ leave_words),
-            length-append (joined (item_words_at homes slots f g) (length g.code)) leave_words,
+            keep_way_length (homes f),
+            length-append (keep_way_words (homes f)) (joined (item_words_at homes slots f g) (length g.code) ++ leave_words (homes f)),
+            length-append (joined (item_words_at homes slots f g) (length g.code)) (leave_words (homes f)),
+            leave_length (homes f),
             items_length f g (length g.code),
           )
 
@@ -76,41 +80,44 @@ module _ (homes : ℕ → FunctionHomes) (slots : Slots) (limits : Limits) where
   abbrev all : List Word
   all = image_words homes slots limits
 
-  head_listed : ListedAt all 0 (head_words limits (start_at homes slots slots.main))
-  head_listed = take_words all 0 (head_words limits (start_at homes slots slots.main)) (joined (function_words_at homes slots) (length slots.funcs)) (listed_after [] all)
+  abbrev head : List Word
+  head = head_words limits (main_moves homes slots) (start_at homes slots slots.main)
+
+  head_listed : ListedAt all 0 head
+  head_listed = take_words all 0 head (joined (function_words_at homes slots) (length slots.funcs)) (listed_after [] all)
 
   function_listed : (f : ℕ) (g : SlotFunction) → slice_get slots.funcs f ≡ Some g → ListedAt all (start_at homes slots f) (function_words homes slots f g)
   function_listed f g is =
-      let after = listed_after (head_words limits (start_at homes slots slots.main)) (joined (function_words_at homes slots) (length slots.funcs)) in
-      let there = piece_listed all 6 (function_words_at homes slots) (length slots.funcs) f (slice_get_within slots.funcs f g is) after in
-      let at : 6 + length (joined (function_words_at homes slots) f) ≡ start_at homes slots f = omega (arith, functions_length homes slots f) in
+      let after = listed_after head (joined (function_words_at homes slots) (length slots.funcs)) in
+      let there = piece_listed all (length head) (function_words_at homes slots) (length slots.funcs) f (slice_get_within slots.funcs f g is) after in
+      let at : length head + length (joined (function_words_at homes slots) f) ≡ start_at homes slots f = omega (arith, functions_length homes slots f, head_length limits (main_moves homes slots) (start_at homes slots slots.main)) in
       subst (λ o. ListedAt all (start_at homes slots f) (function_words_or_none homes slots f o)) is (subst (λ k. ListedAt all k (function_words_at homes slots f)) at there)
 
-  begin_listed : (f : ℕ) (g : SlotFunction) → slice_get slots.funcs f ≡ Some g → ListedAt all (start_at homes slots f) (opening_words (homes f) g)
-  begin_listed f g is = take_words all (start_at homes slots f) (opening_words (homes f) g) (joined (item_words_at homes slots f g) (length g.code) ++ leave_words) (function_listed f g is)
+  begin_listed : (f : ℕ) (g : SlotFunction) → slice_get slots.funcs f ≡ Some g → ListedAt all (start_at homes slots f) (keep_way_words (homes f))
+  begin_listed f g is = take_words all (start_at homes slots f) (keep_way_words (homes f)) (joined (item_words_at homes slots f g) (length g.code) ++ leave_words (homes f)) (function_listed f g is)
 
   -- the words after those that begin a function
-  items_listed : (f : ℕ) (g : SlotFunction) → slice_get slots.funcs f ≡ Some g → ListedAt all (start_at homes slots f + opening_size (homes f) g) (joined (item_words_at homes slots f g) (length g.code) ++ leave_words)
+  items_listed : (f : ℕ) (g : SlotFunction) → slice_get slots.funcs f ≡ Some g → ListedAt all (start_at homes slots f + keep_way_size (homes f)) (joined (item_words_at homes slots f g) (length g.code) ++ leave_words (homes f))
   items_listed f g is =
-      subst (λ n. ListedAt all (start_at homes slots f + n) (joined (item_words_at homes slots f g) (length g.code) ++ leave_words)) (opening_length (homes f) g)
-      (drop_words all (start_at homes slots f) (opening_words (homes f) g) (joined (item_words_at homes slots f g) (length g.code) ++ leave_words) (function_listed f g is))
+      subst (λ n. ListedAt all (start_at homes slots f + n) (joined (item_words_at homes slots f g) (length g.code) ++ leave_words (homes f))) (keep_way_length (homes f))
+      (drop_words all (start_at homes slots f) (keep_way_words (homes f)) (joined (item_words_at homes slots f g) (length g.code) ++ leave_words (homes f)) (function_listed f g is))
 
   item_listed : (f : ℕ) (g : SlotFunction) (point : ℕ) (item : SlotItem) → slice_get slots.funcs f ≡ Some g → slice_get g.code point ≡ Some item →
       ListedAt all (entry_at homes slots f point) (item_words (homes f) (start_at homes slots) (entry_at homes slots f) g point (entry_at homes slots f point) item)
   item_listed f g point item is there =
       let after = items_listed f g is in
-      let items = take_words all (start_at homes slots f + opening_size (homes f) g) (joined (item_words_at homes slots f g) (length g.code)) leave_words after in
-      let piece = piece_listed all (start_at homes slots f + opening_size (homes f) g) (item_words_at homes slots f g) (length g.code) point (slice_get_within g.code point item there) items in
-      let at : start_at homes slots f + opening_size (homes f) g + length (joined (item_words_at homes slots f g) point) ≡ entry_at homes slots f point = omega (arith, items_length homes slots f g point, entry_is homes slots f g point is) in
+      let items = take_words all (start_at homes slots f + keep_way_size (homes f)) (joined (item_words_at homes slots f g) (length g.code)) (leave_words (homes f)) after in
+      let piece = piece_listed all (start_at homes slots f + keep_way_size (homes f)) (item_words_at homes slots f g) (length g.code) point (slice_get_within g.code point item there) items in
+      let at : start_at homes slots f + keep_way_size (homes f) + length (joined (item_words_at homes slots f g) point) ≡ entry_at homes slots f point = omega (arith, items_length homes slots f g point, entry_is homes slots f g point is) in
       subst (λ o. ListedAt all (entry_at homes slots f point) (item_words_or_none homes slots f g point o)) there (subst (λ k. ListedAt all k (item_words_at homes slots f g point)) at piece)
 
-  leave_listed : (f : ℕ) (g : SlotFunction) (point : ℕ) → slice_get slots.funcs f ≡ Some g → slice_get g.code point ≡ None → ListedAt all (entry_at homes slots f point) leave_words
+  leave_listed : (f : ℕ) (g : SlotFunction) (point : ℕ) → slice_get slots.funcs f ≡ Some g → slice_get g.code point ≡ None → ListedAt all (entry_at homes slots f point) (leave_words (homes f))
   leave_listed f g point is none =
       let after = items_listed f g is in
-      let rest = drop_words all (start_at homes slots f + opening_size (homes f) g) (joined (item_words_at homes slots f g) (length g.code)) leave_words after in
-      let at : start_at homes slots f + opening_size (homes f) g + length (joined (item_words_at homes slots f g) (length g.code)) ≡ entry_at homes slots f point =
+      let rest = drop_words all (start_at homes slots f + keep_way_size (homes f)) (joined (item_words_at homes slots f g) (length g.code)) (leave_words (homes f)) after in
+      let at : start_at homes slots f + keep_way_size (homes f) + length (joined (item_words_at homes slots f g) (length g.code)) ≡ entry_at homes slots f point =
       omega (arith, items_length homes slots f g (length g.code), entry_is homes slots f g point is, words_at_end (homes f) g point none) in
-      subst (λ k. ListedAt all k leave_words) at rest
+      subst (λ k. ListedAt all k (leave_words (homes f))) at rest
 
 -- ---- from the list to the image
 
@@ -142,22 +149,22 @@ module _ (homes : ℕ → FunctionHomes) (slots : Slots) (limits : Limits) (imag
       let one = same_function homes slots guard.func f k in_it.function g in_it.is_function is_g (omega (arith, inside.0)) inside.2 (omega arith) (omega arith) in
       none guard.item k lo hi (subst (λ e. InItem homes slots e guard.item k) one in_it)
 
-  head_plain : IsPlain homes slots 0 6
+  head_plain : IsPlain homes slots 0 (6 + main_size homes slots)
   head_plain k lo hi guard is_guard same =
       let in_it = subst (λ j. InItem homes slots guard.func guard.item j) same (guard_in_item homes slots guard is_guard) in
       let inside = in_function homes slots guard.func guard.item k in_it in
       absurd (omega (arith, inside.0))
 
-  begin_plain : (f : ℕ) (g : SlotFunction) → slice_get slots.funcs f ≡ Some g → IsPlain homes slots (start_at homes slots f) (opening_size (homes f) g)
+  begin_plain : (f : ℕ) (g : SlotFunction) → slice_get slots.funcs f ≡ Some g → IsPlain homes slots (start_at homes slots f) (keep_way_size (homes f))
   begin_plain f g is_g =
-      outside f g (start_at homes slots f) (opening_size (homes f) g) is_g (omega arith) (omega arith)
-      (λ point k lo hi w. (let inside = in_function homes slots f point k w in let same : opening_size (homes f) w.function ≡ opening_size (homes f) g = ap (opening_size (homes f)) (same_Some w.function g (sym w.is_function ∙ is_g)) in absurd (omega (arith, inside.0))))
+      outside f g (start_at homes slots f) (keep_way_size (homes f)) is_g (omega arith) (omega arith)
+      (λ point k lo hi w. (let inside = in_function homes slots f point k w in absurd (omega (arith, inside.0))))
 
-  leave_plain : (f : ℕ) (g : SlotFunction) (point : ℕ) → slice_get slots.funcs f ≡ Some g → slice_get g.code point ≡ None → IsPlain homes slots (entry_at homes slots f point) 4
+  leave_plain : (f : ℕ) (g : SlotFunction) (point : ℕ) → slice_get slots.funcs f ≡ Some g → slice_get g.code point ≡ None → IsPlain homes slots (entry_at homes slots f point) (leave_size (homes f))
   leave_plain f g point is_g none =
       let at = entry_is homes slots f g point is_g in
       let end = words_at_end (homes f) g point none in
-      outside f g (entry_at homes slots f point) 4 is_g (omega arith) (omega arith)
+      outside f g (entry_at homes slots f point) (leave_size (homes f)) is_g (omega arith) (omega arith)
       (λ q k lo hi w. (let inside = in_function homes slots f q k w in let same : words_before (homes f) w.function (length w.function.code) ≡ words_before (homes f) g (length g.code) = ap (λ h. words_before (homes f) h (length h.code)) (same_Some w.function g (sym w.is_function ∙ is_g)) in absurd (omega (arith, inside.1))))
 
   -- a guard that is at an item's place is that item
@@ -212,7 +219,7 @@ module _ (homes : ℕ → FunctionHomes) (slots : Slots) (limits : Limits) (imag
           omega (arith, few)
 
       encodable : AreWords its_words
-      encodable = item_encodable (homes f) (start_at homes slots) (entry_at homes slots f) g point here few_starts (few_entries f) (entries_near homes slots f g is_g point) item (fits f g point item is_g is_item) inside
+      encodable = item_encodable (homes f) (start_at homes slots) (entry_at homes slots f) g point here few_starts (few_entries f) (entries_near homes slots f g is_g (λ k i. fits f g k i is_g) point) item (fits f g point item is_g is_item) inside
 
       listed : ListedAt (image_words homes slots limits) here its_words
       listed = item_listed homes slots limits f g point item is_g is_item
@@ -276,26 +283,32 @@ laid p homes slots limits image accepted literals lowered within have is =
     let code = within.code in
     let few : start_at homes slots (length slots.funcs) ≤ 250000 = omega arith in
     let fits = item_fits p slots limits accepted literals lowered within homes have in
-    let opens : (f : ℕ) (g : SlotFunction) → slice_get slots.funcs f ≡ Some g → AreWords (opening_words (homes f) g) = λ f g is_g.
-    opening_fits (homes f) g (all_reached p slots limits accepted literals lowered within homes have f g is_g) (slots_few p slots limits accepted literals lowered within f g is_g) in
+    let moves = main_moves homes slots in
+    let loads_fit = main_fits (slice_get slots.funcs slots.main) refl in
     let main_small = few_starts homes slots limits image is few fits slots.main in
-    let head = head_words limits (start_at homes slots slots.main) in
+    let main = start_at homes slots slots.main in
+    let head = head_words limits moves main in
+    let moves_most = main_most homes p slots lowered have in
     let room = limits.few_frames in
     let eight : 8 < 32 = omega arith in
     let upper : high_part (limits.frames - 1) < 2 ^ 20 = omega arith in
     let end_fits = words (fault_words 0) refl in
-    let head_fits : AreWords head = ((eight, upper), ((eight, eight, low (limits.frames - 1)), ((omega arith, jump_fits 2 (start_at homes slots slots.main) (omega arith) main_small), end_fits))) in
-    let has_head = has homes slots limits image is 0 head (head_listed homes slots limits) head_fits (head_plain homes slots limits image is) in
+    let jump = Jal 1 (jump_offset (2 + restore_size moves) main) in
+    let head_fits : AreWords head = ((eight, upper), ((eight, eight, low (limits.frames - 1)), both (restore_words moves) (jump ∷ fault_words 0) loads_fit ((omega arith, jump_fits (2 + restore_size moves) main (omega arith) main_small), end_fits))) in
+    let has_head = has homes slots limits image is 0 head (head_listed homes slots limits) head_fits (subst (λ n. IsPlain homes slots 0 n) (sym (head_length limits moves main)) (head_plain homes slots limits image is)) in
+    let loads_length = restore_length moves in
+    let end_at : 0 + 1 + 1 + length (restore_words moves) + 1 ≡ end_start homes slots = omega arith in
     record {
       is = is;
       head = has_head;
-      ends = has_head.1.1.1;
-      begins = λ f g is_g. has homes slots limits image is (start_at homes slots f) (opening_words (homes f) g) (begin_listed homes slots limits f g is_g) (opens f g is_g)
-          (subst (λ n. IsPlain homes slots (start_at homes slots f) n) (sym (opening_length (homes f) g)) (begin_plain homes slots limits image is f g is_g));
+      ends = subst (λ k. HasAt image k (fault_words 0)) end_at (HasAt-rest image (0 + 1 + 1) (restore_words moves) (jump ∷ fault_words 0) has_head.1.1).1;
+      begins = λ f g is_g. has homes slots limits image is (start_at homes slots f) (keep_way_words (homes f)) (begin_listed homes slots limits f g is_g) (keep_way_fits (homes f))
+          (subst (λ n. IsPlain homes slots (start_at homes slots f) n) (sym (keep_way_length (homes f))) (begin_plain homes slots limits image is f g is_g));
       first = λ f g is_g. (let at = entry_is homes slots f g 0 is_g in omega arith);
       items = item_at homes slots limits image is few fits;
       next = λ f g point item is_g is_item. (let here = entry_is homes slots f g point is_g in let next = entry_is homes slots f g (suc point) is_g in let words = words_next (homes f) g point item is_item in omega arith);
-      leaves = λ f g point is_g none. has homes slots limits image is (entry_at homes slots f point) leave_words (leave_listed homes slots limits f g point is_g none) (words leave_words refl) (leave_plain homes slots limits image is f g point is_g none);
+      leaves = λ f g point is_g none. has homes slots limits image is (entry_at homes slots f point) (leave_words (homes f)) (leave_listed homes slots limits f g point is_g none) (leave_fits (homes f))
+          (subst (λ n. IsPlain homes slots (entry_at homes slots f point) n) (sym (leave_length (homes f))) (leave_plain homes slots limits image is f g point is_g none));
       guards = λ k guard at. each_at (IsGuardAt homes slots) (image_guards homes slots) k guard (guards_are homes slots) (ap (λ gs. slice_get gs k) (sym is.guards) ∙ at);
       apart = guards_apart homes slots;
       few_starts = few_starts homes slots limits image is few fits;
@@ -303,3 +316,10 @@ laid p homes slots limits image accepted literals lowered within have is =
       frames = largest_has p slots limits accepted literals lowered within slots.funcs;
       few_frames = largest_few p slots limits accepted literals lowered within;
     }
+  where
+    -- what brings the arguments of `main` into registers
+    main_fits : (o : Option SlotFunction) → slice_get slots.funcs slots.main ≡ o → AreWords (restore_words (opening_or_none (homes slots.main) o))
+    main_fits None e = tt
+    main_fits (Some g) e =
+        let few = slots_few p slots limits accepted literals lowered within slots.main g e in
+        restores_fit (homes slots.main) 2 _ 0 g.slots (all_reached p slots limits accepted literals lowered within homes have slots.main g e) (omega arith)

@@ -1,5 +1,5 @@
 -- How many words sequences and items have.
-use Rattle.std.proofs.Common.{◌≡◌, ℕ, suc, ◌+◌, Bool, true, false, cond, List, [], ◌∷◌, ◌++◌, length, Option, Some, None, refl, arith, length-append}
+use Rattle.std.proofs.Common.{◌≡◌, ℕ, suc, ◌+◌, Bool, true, false, cond, eqb, List, [], ◌∷◌, ◌++◌, length, Option, Some, None, refl, ap, arith, length-append}
 use Rattle.bril_tree.specs.declared.home.Home.{Home}
 use Rattle.bril_tree.specs.declared.home.Home.TheVariants.{Reg, Frame}
 use Rattle.bril_tree.specs.declared.operators.BinaryOp.{BinaryOp}
@@ -17,9 +17,10 @@ use Rattle.slot_code.specs.declared.item.SlotItem.TheVariants.{Pass, Constant, C
 use Rattle.slot_code.specs.declared.slots.SlotFunction.{SlotFunction}
 use Rattle.rv64_words_laws.specs.sequences.Operations.{store_cell_words, unary_words, binary_words, unary_size, binary_size, binary_takes_any}
 use Rattle.rv64_words_laws.specs.sequences.Moves.{Move, register_for, source_words, source_size, target_words, target_size, copy_words, copy_size, operand_words, operand_size, result_words, result_size, fetch_words, fetch_size, fill_words, fill_size, save_one, save_one_size, save_words, save_size, restore_one, restore_one_size, restore_words, restore_size}
-use Rattle.rv64_words_laws.specs.sequences.Sequences.{constant_words, load_words, store_words, frame_up_words, jump_offset, fits_12, fits_32, is_near, constant_size, load_size, store_size, frame_up_size}
+use Rattle.rv64_words_laws.specs.sequences.Sequences.{constant_words, load_words, store_words, frame_by_words, bytes_up, bytes_down, jump_offset, fits_12, fits_32, is_near, constant_size, load_size, store_size, frame_by_size}
 use Rattle.rv64_emit_laws.specs.layout.Homes.{FunctionHomes, variable_home, call_moves, guard_moves, speculate_moves}
-use Rattle.rv64_emit_laws.specs.layout.Items.{item_size, item_words, unary_item_words, unary_item_size, binary_item_words, binary_item_size, pass_words, pass_size, call_result_words, call_result_size, call_words, before_call, after_call, returned_words, returned_size, value_words, spaced_words, spaced_size, print_words, print_size, environment_words, print_call, guard_front, guard_front_size, argument_word, branch_size, branch_words, copied_size, copied_words, failing_size, is_next, mark_size, mark_words, reaches_over, same_home, skip_size, skip_words, way_size, way_words}
+use Rattle.rv64_emit_laws.specs.layout.Items.{item_size, item_words, unary_item_words, unary_item_size, binary_item_words, binary_item_size, call_result_words, call_result_size, call_words, before_call, after_call, after_call_size, returned_words, returned_size, value_words, spaced_words, spaced_size, print_words, print_size, environment_words, print_call, guard_front, guard_front_size, branch_size, branch_words, copied_size, copied_words, failing_size, is_next, keep_way_size, keep_way_words, leave_size, leave_words, mark_size, mark_words, reaches_over, same_home, skip_size, skip_words, take_way_words, way_size, way_words}
+use Rattle.rv64_emit_laws.specs.layout.Passing.{Way, nowhere, stored, swapped, copied, loaded, pass_copies, pass_copies_size, pass_loads, pass_size, pass_stores, pass_words, way_at, with_copy, with_copy_size}
 use Rattle.rv64_emit_laws.specs.layout.Reach.{is_in_reach}
 
 -- a list that a test chooses
@@ -83,8 +84,8 @@ pub restore_length : (moves : List Move) → length (restore_words moves) ≡ re
 restore_length [] = refl
 restore_length (m ∷ moves) = joined (restore_one m.home m.word) (restore_words moves) _ _ (restore_one_length m.home m.word) (restore_length moves)
 
-pub frame_up_length : (wide : ℕ) → length (frame_up_words wide) ≡ frame_up_size wide
-frame_up_length wide = chosen _ _ _ 2 5 refl refl
+pub frame_by_length : (n : ℕ) → length (frame_by_words n) ≡ frame_by_size n
+frame_by_length n = chosen (fits_12 n) _ _ 1 3 refl refl
 
 pub unary_length : (operation : UnaryOp) (d a : ℕ) → length (unary_words operation d a) ≡ unary_size operation
 unary_length unary.Not d a = refl
@@ -136,11 +137,23 @@ binary_item_length operation dest first second =
 
 -- ---- calls, returns and output
 
-pub pass_length : (homes : FunctionHomes) (g : SlotFunction) (k : ℕ) (args : List ℕ) → length (pass_words homes g k args) ≡ pass_size homes g k args
-pass_length homes g k [] = refl
-pass_length homes g k (a ∷ args) =
-    let home = variable_home homes a in
-    joined (source_words 5 home) _ _ _ (source_length 5 home) (joined (store_words (register_for 5 home) (argument_word g k)) _ _ _ (store_length (register_for 5 home) (argument_word g k)) (pass_length homes g (suc k) args))
+copy_length_with : (w : Way) (words : List Word) (size : ℕ) → length words ≡ size → length (with_copy w words) ≡ with_copy_size w size
+copy_length_with nowhere words size same = same
+copy_length_with stored words size same = same
+copy_length_with (swapped r) words size same = same
+copy_length_with (copied r s) words size same = chosen (eqb r s) _ _ _ _ same (ap suc same)
+copy_length_with (loaded r o) words size same = same
+
+module _ (homes : FunctionHomes) (g : SlotFunction) (to : ℕ) where
+  pub copies_length : (k : ℕ) (args : List ℕ) → length (pass_copies homes g to k args) ≡ pass_copies_size homes g to k args
+  copies_length k [] = refl
+  copies_length k (a ∷ args) = copy_length_with (way_at homes g to k a args) _ _ (copies_length (suc k) args)
+
+  pub pass_length : (args : List ℕ) → length (pass_words homes g to args) ≡ pass_size homes g to args
+  pass_length args =
+      let stores = pass_stores homes g to 0 args in
+      let loads = pass_loads homes g to 0 args in
+      joined (save_words stores) _ _ _ (save_length stores) (joined (pass_copies homes g to 0 args) (restore_words loads) _ _ (copies_length 0 args) (restore_length loads))
 
 pub call_result_length : (homes : FunctionHomes) (dest : Option ℕ) → length (call_result_words homes dest) ≡ call_result_size homes dest
 call_result_length homes None = refl
@@ -182,16 +195,27 @@ guard_front_length homes g point condition label =
     let moves = guard_moves homes g point label in
     joined (source_words 5 home) _ _ _ (source_length 5 home) (joined (skip_words (register_for 5 home) count) (restore_words moves) _ _ (skip_length (register_for 5 home) count) (restore_length moves))
 
-pub call_length : (homes : FunctionHomes) (g : SlotFunction) (point here : ℕ) (dest : Option ℕ) (start : ℕ) (args : List ℕ) →
-    length (call_words homes g point here dest start args) ≡ before_call homes g point dest args + (1 + (restore_size (call_moves homes g point dest) + call_result_size homes dest))
-call_length homes g point here dest start args =
+pub call_length : (homes : FunctionHomes) (g : SlotFunction) (point here : ℕ) (dest : Option ℕ) (function start : ℕ) (args : List ℕ) →
+    length (call_words homes g point here dest function start args) ≡ before_call homes g point dest function args + (1 + after_call_size homes g point dest)
+call_length homes g point here dest function start args =
     let moves = call_moves homes g point dest in
-    let last = joined (restore_words moves) (call_result_words homes dest) _ _ (restore_length moves) (call_result_length homes dest) in
-    let back = Jal 1 (jump_offset (here + before_call homes g point dest args) start) ∷ after_call homes g point dest in
-    let up = joined (frame_up_words g.words) back _ (1 + (restore_size moves + call_result_size homes dest)) (frame_up_length g.words) (omega (arith, last)) in
-    let passed = joined (pass_words homes g 0 args) (frame_up_words g.words ++ back) _ _ (pass_length homes g 0 args) up in
-    let kept = joined (save_words moves) (pass_words homes g 0 args ++ (frame_up_words g.words ++ back)) _ _ (save_length moves) passed in
+    let up = frame_by_words (bytes_up g.words) in
+    let down = frame_by_words (bytes_down g.words) in
+    let reloaded = joined (restore_words moves) (call_result_words homes dest) _ _ (restore_length moves) (call_result_length homes dest) in
+    let last = joined down (restore_words moves ++ call_result_words homes dest) _ _ (frame_by_length (bytes_down g.words)) reloaded in
+    let back = Jal 1 (jump_offset (here + before_call homes g point dest function args) start) ∷ after_call homes g point dest in
+    let upped = joined up back _ (1 + after_call_size homes g point dest) (frame_by_length (bytes_up g.words)) (omega (arith, last)) in
+    let passed = joined (pass_words homes g function args) (up ++ back) _ _ (pass_length homes g function args) upped in
+    let kept = joined (save_words moves) (pass_words homes g function args ++ (up ++ back)) _ _ (save_length moves) passed in
     omega (arith, kept)
+
+-- ---- what begins a function, and what leaves it
+
+pub keep_way_length : (homes : FunctionHomes) → length (keep_way_words homes) ≡ keep_way_size homes
+keep_way_length homes = chosen homes.leaf _ _ 0 1 refl refl
+
+pub leave_length : (homes : FunctionHomes) → length (leave_words homes) ≡ leave_size homes
+leave_length homes = joined (take_way_words homes) _ _ 2 (chosen homes.leaf _ _ 0 1 refl refl) refl
 
 -- ---- items
 
@@ -207,8 +231,8 @@ item_length homes start entry g point here (Jump to) = chosen (is_next point to)
 item_length homes start entry g point here (Branch condition then_to else_to) =
     let home = variable_home homes condition in
     joined (source_words 5 home) _ _ _ (source_length 5 home) (branch_length g entry point (here + source_size home) (register_for 5 home) then_to else_to)
-item_length homes start entry g point here (Call dest function args) = call_length homes g point here dest (start function) args
-item_length homes start entry g point here (Return value) = joined (returned_words homes value) _ _ 4 (returned_length homes value) refl
+item_length homes start entry g point here (Call dest function args) = call_length homes g point here dest function (start function) args
+item_length homes start entry g point here (Return value) = joined (returned_words homes value) _ _ _ (returned_length homes value) (leave_length homes)
 item_length homes start entry g point here (Print args) = print_length homes args
 item_length homes start entry g point here (Alloc dest count) =
     let last = fill_length 10 (variable_home homes dest) in

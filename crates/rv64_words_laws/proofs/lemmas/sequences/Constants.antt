@@ -24,7 +24,7 @@ module _ (image : Image) (z : Sizes) where
       is_core image z (written e r u) (written_twice e r shifted _ ∙ ap (written e r) sum) g2
 
   -- the upper part by LUI, and the low part added
-  upper : {k : ℕ} {c : Core} {n j : ℕ} {e : Core} {ws : List Word} → (r high u : ℕ) → r ≢ 0 → moved_by (extended_32 (high * 4096)) (low_part u) ≡ u → Going image z k c n j e (Lui r high ∷ addi r r (low_part u) ∷ ws) → Going image z k c (n + 1 + 1) (j + 1 + 1) (written e r u) ws
+  pub upper : {k : ℕ} {c : Core} {n j : ℕ} {e : Core} {ws : List Word} → (r high u : ℕ) → r ≢ 0 → moved_by (extended_32 (high * 4096)) (low_part u) ≡ u → Going image z k c n j e (Lui r high ∷ addi r r (low_part u) ∷ ws) → Going image z k c (n + 1 + 1) (j + 1 + 1) (written e r u) ws
   upper {e = e} r high u ne is g =
       let first = extended_32 (high * 4096) in
       let sum : moved_by ((written e r first).registers r) (low_part u) ≡ u = ap (λ x. moved_by x (low_part u)) (written_here e r first ne) ∙ is in

@@ -82,6 +82,13 @@ short_cases n fits = ⊎_elim (λ e. inl (below e)) (λ e. inr (above e)) (or_ca
 pub short_again : (n : ℕ) → n < 2 ^ 64 → fits_12 n ≡ true → moved_by 0 (low_part n) ≡ n
 short_again n lt fits = short_by_test (ltb (n % 4096) 2048) n (n % 4096) lt (short_cases n fits) refl refl
 
+-- ADDI adds it to another number
+pub short_added : (n x : ℕ) → n < 2 ^ 64 → fits_12 n ≡ true → moved_by x (low_part n) ≡ (x + n) % 2 ^ 64
+short_added n x lt fits = modulo (low_bits n) (short_again n lt fits)
+  where
+    modulo : (l : ℕ) → (0 + l) % 2 ^ 64 ≡ n → (x + l) % 2 ^ 64 ≡ (x + n) % 2 ^ 64
+    modulo l e = omega arith
+
 -- a number that ADDI alone doesn't give is below the last 2048
 pub not_short : (n : ℕ) → fits_12 n ≡ false → n < 2 ^ 64 - 2048
 not_short n fits = by_test (leb (2 ^ 64 - 2048) n) refl fits

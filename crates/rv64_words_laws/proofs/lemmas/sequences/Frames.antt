@@ -1,5 +1,6 @@
 -- The words of a frame: loads and stores near its base and far from it, and the frame above.
-use Rattle.std.proofs.Common.{◌≡◌, ◌≢◌, ℕ, ◌+◌, ◌*◌, ◌%◌, ◌^◌, ◌<◌, ◌≤◌, Bool, true, false, cond, ltb, sym, ap, ◌∙◌, arith, List, [], ◌∷◌, ◌++◌, pos}
+use Rattle.std.proofs.Common.{◌≡◌, ◌≢◌, ℕ, ◌+◌, ◌-◌, ◌*◌, ◌%◌, ◌^◌, ◌<◌, ◌≤◌, Bool, true, false, cond, refl, sym, ap, ◌∙◌, arith, List, [], ◌∷◌, ◌++◌, pos}
+use Rattle.std.proofs.lemmas.Bool.Decides.{nat_tests}
 use Rattle.rv64_words.specs.declared.image.Image.{Image}
 use Rattle.rv64_words.specs.declared.word.Word.{Word}
 use Rattle.rv64_words.specs.declared.word.Word.TheVariants.{Lui, Ld, Sd}
@@ -10,8 +11,16 @@ use Rattle.rv64_words_laws.specs.stretches.Core.{Core, written, put}
 use Rattle.rv64_words_laws.proofs.lemmas.stretches.Cores.{written_twice, written_same, written_other}
 use Rattle.rv64_words_laws.proofs.lemmas.stretches.Going.{Going, plain, load, store, is_core, is_place}
 use Rattle.rv64_words_laws.specs.sequences.Frames.{Reaches, far_address, addressed}
-use Rattle.rv64_words_laws.specs.sequences.Sequences.{high_part, low_part, is_near, address_words, load_from, store_over, load_size, store_size, frame_up_words, frame_up_size}
-use Rattle.rv64_words_laws.proofs.lemmas.sequences.Digits.{based_again, near_again}
+use Rattle.rv64_words_laws.specs.sequences.Sequences.{high_part, low_part, fits_12, fits_32, is_near, address_words, load_from, store_over, load_size, store_size, frame_by_words, frame_by_size, bytes_up, bytes_down}
+use Rattle.rv64_words_laws.proofs.lemmas.sequences.Digits.{based_again, medium_again, near_again, not_short, short_added}
+use Rattle.rv64_words_laws.proofs.lemmas.sequences.Constants.{upper}
+
+-- numbers that LUI and ADDI give
+low_medium : (n : ℕ) → n < 2 ^ 31 - 2048 → fits_32 n ≡ true
+low_medium n lt = grind (arith, nat_tests)
+
+high_medium : (n : ℕ) → 2 ^ 64 - 2 ^ 31 ≤ n → fits_32 n ≡ true
+high_medium n le = grind (arith, nat_tests)
 
 far_reach : (z : Sizes) (e : Core) (r b o : ℕ) → Reaches z e r b o → moved_by (far_address e r o) (low_part (8 * o)) ≡ stack_base + 8 * (b + o)
 far_reach z e r b o h =
@@ -62,62 +71,38 @@ module _ (image : Image) (z : Sizes) where
           is_core image z (put (written e 6 (far_address e r o)) (b + o) (e.registers rs)) (ap (put (written e 6 (far_address e r o)) (b + o)) (written_other e 6 (far_address e r o) rs other))
           (is_place image z (n + 3) (j + 3) (omega arith) (omega arith) (store image z (b + o) (far_reach z e r b o h) h.inside (address r o ne far)))
 
-  -- ---- the frame above
+  -- ---- the frame above, and the one below
 
   -- what register 7 has afterwards
-  abbrev pub seventh_left : Core → ℕ → ℕ → ℕ
-  seventh_left e b wide = cond (ltb wide 255) (e.registers 7) (stack_base + 8 * (b + wide))
+  abbrev pub seventh_left : Core → ℕ → ℕ
+  seventh_left e n = cond (fits_12 n) (e.registers 7) n
 
-  -- The frame so many words above becomes the frame, and its word 1 has the base of the old one.
-  abbrev pub framed_up : Core → ℕ → ℕ → Core
-  framed_up e b wide = written (put (written e 7 (seventh_left e b wide)) (b + wide + 1) (e.registers 2)) 2 (stack_base + 8 * (b + wide))
+  -- register 2 has another frame
+  abbrev pub other_frame : Core → ℕ → ℕ → Core
+  other_frame e n base = written (written e 7 (seventh_left e n)) 2 base
 
-  up_base : (e : Core) (b wide : ℕ) → Reaches z e 2 b (wide + 1) → (e.registers 2 + 8 * wide) % 2 ^ 64 ≡ stack_base + 8 * (b + wide)
-  up_base e b wide h =
-      let inside : b + (wide + 1) < z.stack = h.inside in
-      let few : z.stack ≤ 8388608 = h.few in
-      let sum : (stack_base + 8 * b + 8 * wide) % 2 ^ 64 ≡ stack_base + 8 * (b + wide) = omega arith in
-      ap (λ x. (x + 8 * wide) % 2 ^ 64) h.base ∙ sum
-
-  pub frame_up : {k : ℕ} {c : Core} {n j : ℕ} {e : Core} {ws : List Word} → (b wide : ℕ) → Reaches z e 2 b (wide + 1) → Going image z k c n j e (frame_up_words wide ++ ws) → Going image z k c (n + frame_up_size wide) (j + frame_up_size wide) (framed_up e b wide) ws
-  frame_up {k} {c} {n} {j} {e} {ws} b wide h g = by_test (ltb wide 255) g
+  frame_by : {k : ℕ} {c : Core} {n j : ℕ} {e : Core} {ws : List Word} → (by base : ℕ) → by < 2 ^ 64 → fits_32 by ≡ true → (e.registers 2 + by) % 2 ^ 64 ≡ base →
+      Going image z k c n j e (frame_by_words by ++ ws) → Going image z k c (n + frame_by_size by) (j + frame_by_size by) (other_frame e by base) ws
+  frame_by {k} {c} {n} {j} {e} {ws} by base small medium is g = by_test (fits_12 by) refl g
     where
-      at_one : b + (wide + 1) ≡ b + wide + 1
-      at_one = omega arith
+      by_test : (t : Bool) → fits_12 by ≡ t → Going image z k c n j e (cond t (addi 2 2 (low_part by) ∷ []) (Lui 7 (high_part by % 2 ^ 20) ∷ addi 7 7 (low_part by) ∷ add 2 2 7 ∷ []) ++ ws)
+          → Going image z k c (n + cond t 1 3) (j + cond t 1 3) (written (written e 7 (cond t (e.registers 7) by)) 2 base) ws
+      by_test true near g =
+          is_core image z (written (written e 7 (e.registers 7)) 2 base) (ap (written e 2) (short_added by (e.registers 2) small near ∙ is) ∙ ap (λ f. written f 2 base) (sym (written_same e 7))) (plain image z tt g)
+      by_test false far g =
+          let g1 = upper image z 7 (high_part by % 2 ^ 20) by (λ x. absurd (omega arith)) (medium_again by (not_short by far) medium) g in
+          is_core image z (written (written e 7 by) 2 base) (ap (written (written e 7 by) 2) is) (is_place image z (n + 3) (j + 3) (omega arith) (omega arith) (plain image z tt g1))
 
-      inside_one : b + wide + 1 < z.stack
-      inside_one = let i = h.inside in omega arith
+  pub frame_up : {k : ℕ} {c : Core} {n j : ℕ} {e : Core} {ws : List Word} → (b wide : ℕ) → e.registers 2 ≡ stack_base + 8 * b → b + wide ≤ 8388608 →
+      Going image z k c n j e (frame_by_words (bytes_up wide) ++ ws) → Going image z k c (n + frame_by_size (bytes_up wide)) (j + frame_by_size (bytes_up wide)) (other_frame e (bytes_up wide) (stack_base + 8 * (b + wide))) ws
+  frame_up {e = e} b wide two few g =
+      let small : 8 * wide < 2 ^ 31 - 2048 = omega arith in
+      let sum : (stack_base + 8 * b + 8 * wide) % 2 ^ 64 ≡ stack_base + 8 * (b + wide) = omega arith in
+      frame_by (bytes_up wide) (stack_base + 8 * (b + wide)) (omega arith) (low_medium (8 * wide) small) (ap (λ x. (x + 8 * wide) % 2 ^ 64) two ∙ sum) g
 
-      near_one : moved_by (e.registers 2) (pos (8 * (wide + 1))) ≡ stack_base + 8 * (b + wide + 1)
-      near_one = near_reach z e 2 b (wide + 1) h ∙ ap (λ x. stack_base + 8 * x) at_one
-
-      far_base : moved_by ((extended_32 (high_part (8 * wide) * 4096) + e.registers 2) % 2 ^ 64) (low_part (8 * wide)) ≡ stack_base + 8 * (b + wide)
-      far_base =
-          let i = h.inside in
-          let few = h.few in
-          far_reach z e 2 b wide (record { base = h.base; inside = omega arith; few = few })
-
-      next_word : (x : ℕ) → x < 8388608 → moved_by (stack_base + 8 * x) (pos 8) ≡ stack_base + 8 * (x + 1)
-      next_word x lt = omega arith
-
-      by_test : (t : Bool) → Going image z k c n j e (cond t (Sd 2 2 (pos (8 * (wide + 1))) ∷ addi 2 2 (pos (8 * wide)) ∷ []) (Lui 7 (high_part (8 * wide)) ∷ add 7 7 2 ∷ addi 7 7 (low_part (8 * wide)) ∷ Sd 7 2 (pos 8) ∷ addi 2 7 (pos 0) ∷ []) ++ ws)
-          → Going image z k c (n + cond t 2 5) (j + cond t 2 5) (written (put (written e 7 (cond t (e.registers 7) (stack_base + 8 * (b + wide)))) (b + wide + 1) (e.registers 2)) 2 (stack_base + 8 * (b + wide))) ws
-      by_test true near =
-          let g1 = store image z (b + wide + 1) near_one inside_one near in
-          let g2 = plain image z tt g1 in
-          is_core image z (written (put (written e 7 (e.registers 7)) (b + wide + 1) (e.registers 2)) 2 (stack_base + 8 * (b + wide)))
-          (ap (written (put e (b + wide + 1) (e.registers 2)) 2) (up_base e b wide h) ∙ ap (λ f. written (put f (b + wide + 1) (e.registers 2)) 2 (stack_base + 8 * (b + wide))) (sym (written_same e 7)))
-          (is_place image z (n + 2) (j + 2) (omega arith) (omega arith) g2)
-      by_test false far =
-          let seven = stack_base + 8 * (b + wide) in
-          let high = extended_32 (high_part (8 * wide) * 4096) in
-          let sum = (high + e.registers 2) % 2 ^ 64 in
-          let g1 = is_core image z (written e 7 sum) (written_twice e 7 high _) (plain image z tt (plain image z tt far)) in
-          let g2 = is_core image z (written e 7 seven) (written_twice e 7 sum _ ∙ ap (written e 7) far_base) (plain image z tt g1) in
-          let i = h.inside in
-          let few = h.few in
-          let g3 = store image z (b + wide + 1) (next_word (b + wide) (omega arith)) inside_one g2 in
-          let g4 = plain image z tt g3 in
-          let none : (seven + 0) % 2 ^ 64 ≡ seven = omega arith in
-          is_core image z (written (put (written e 7 seven) (b + wide + 1) (e.registers 2)) 2 seven) (ap (written (put (written e 7 seven) (b + wide + 1) (e.registers 2)) 2) none)
-          (is_place image z (n + 5) (j + 5) (omega arith) (omega arith) g4)
+  pub frame_down : {k : ℕ} {c : Core} {n j : ℕ} {e : Core} {ws : List Word} → (b wide : ℕ) → e.registers 2 ≡ stack_base + 8 * (b + wide) → 1 ≤ wide → b + wide ≤ 8388608 →
+      Going image z k c n j e (frame_by_words (bytes_down wide) ++ ws) → Going image z k c (n + frame_by_size (bytes_down wide)) (j + frame_by_size (bytes_down wide)) (other_frame e (bytes_down wide) (stack_base + 8 * b)) ws
+  frame_down {e = e} b wide two some few g =
+      let large : 2 ^ 64 - 2 ^ 31 ≤ bytes_down wide = omega arith in
+      let sum : (stack_base + 8 * (b + wide) + bytes_down wide) % 2 ^ 64 ≡ stack_base + 8 * b = omega arith in
+      frame_by (bytes_down wide) (stack_base + 8 * b) (omega arith) (high_medium (bytes_down wide) large) (ap (λ x. (x + bytes_down wide) % 2 ^ 64) two ∙ sum) g

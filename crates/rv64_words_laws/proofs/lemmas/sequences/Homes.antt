@@ -26,7 +26,7 @@ five_not_six = λ e. absurd (omega arith)
 
 -- register 6 may have got an address
 pub addressed_keeps : (e : Core) (o : ℕ) → Keeps e (addressed e 2 o)
-addressed_keeps e o = keeps_written e e 5 (address_left e 2 o) refl refl refl refl (keeps_itself e)
+addressed_keeps e o = keeps_written e e 5 (address_left e 2 o) refl refl refl refl refl (keeps_itself e)
 
 pub fetched_itself : (b s : ℕ) (e : Core) → Fetched b s (Reg s) e e
 fetched_itself b s e = record { keeps = keeps_itself e; got = refl; others = λ r ne six. refl }
@@ -56,6 +56,7 @@ module _ (b : ℕ) where
   rest_on : (c d e : Core) → (r : ℕ) → KeepsBut r c d → KeepsRest d e → KeepsRest c e
   rest_on c d e r k f = record {
     zero_register = f.zero_register ∙ k.zero_register;
+    link_register = f.link_register ∙ k.link_register;
     frame_register = f.frame_register ∙ k.frame_register;
     frames_left = f.frames_left ∙ k.frames_left;
     table = f.table ∙ k.table;
@@ -89,6 +90,7 @@ module _ (b : ℕ) where
   filled_from_kept home c d e w k f = record {
     rest = record {
       zero_register = f.rest.zero_register ∙ k.zero_register;
+      link_register = f.rest.link_register ∙ k.link_register;
       frame_register = f.rest.frame_register ∙ k.frame_register;
       frames_left = f.rest.frames_left ∙ k.frames_left;
       table = f.rest.table ∙ k.table;
@@ -105,7 +107,7 @@ module _ (b : ℕ) where
 
   pub filled_itself : (s : ℕ) (e : Core) → Filled b (Reg s) (e.registers s) e e
   filled_itself s e = record {
-    rest = record { zero_register = refl; frame_register = refl; frames_left = refl; table = refl; cells = refl; blocks = refl; next_free = refl; printed = refl; arrivals = refl };
+    rest = record { zero_register = refl; link_register = refl; frame_register = refl; frames_left = refl; table = refl; cells = refl; blocks = refl; next_free = refl; printed = refl; arrivals = refl };
     got = refl;
     others = λ h u ne. refl;
     stack = λ k none. refl;
@@ -115,7 +117,7 @@ module _ (b : ℕ) where
   pub filled_register : (s : ℕ) (e : Core) (v : ℕ) → IsUsable (Reg s) → Filled b (Reg s) v e (written e s v)
   filled_register zero e v u = absurd (true≢false (sym u))
   filled_register (suc s) e v u = record {
-    rest = record { zero_register = other 0 refl; frame_register = other 2 refl; frames_left = other 8 refl; table = refl; cells = refl; blocks = refl; next_free = refl; printed = refl; arrivals = refl };
+    rest = record { zero_register = other 0 refl; link_register = other 1 refl; frame_register = other 2 refl; frames_left = other 8 refl; table = refl; cells = refl; blocks = refl; next_free = refl; printed = refl; arrivals = refl };
     got = assigned_here e.registers (suc s) v;
     others = others;
     stack = λ k none. refl;
@@ -131,7 +133,7 @@ module _ (b : ℕ) where
   -- a word of the frame does
   pub filled_stored : (r o : ℕ) (e : Core) → Filled b (Frame o) (e.registers r) e (put (addressed e 2 o) (b + o) (e.registers r))
   filled_stored r o e = record {
-    rest = record { zero_register = refl; frame_register = refl; frames_left = refl; table = refl; cells = refl; blocks = refl; next_free = refl; printed = refl; arrivals = refl };
+    rest = record { zero_register = refl; link_register = refl; frame_register = refl; frames_left = refl; table = refl; cells = refl; blocks = refl; next_free = refl; printed = refl; arrivals = refl };
     got = assigned_here e.stack (b + o) (e.registers r);
     others = others;
     stack = λ k none. assigned_other e.stack (b + o) (e.registers r) k (none o refl);

@@ -9,11 +9,12 @@ use Rattle.rv64_words_laws.proofs.lemmas.stretches.Cores.{apart_from}
 use Rattle.rv64_words_laws.specs.sequences.Moves.{is_temporary}
 
 pub keeps_itself : (c : Core) → Keeps c c
-keeps_itself c = record { zero_register = refl; frame_register = refl; frames_left = refl; homes = λ r h. refl; stack = refl; table = refl; cells = refl; blocks = refl; next_free = refl; printed = refl; arrivals = refl }
+keeps_itself c = record { zero_register = refl; link_register = refl; frame_register = refl; frames_left = refl; homes = λ r h. refl; stack = refl; table = refl; cells = refl; blocks = refl; next_free = refl; printed = refl; arrivals = refl }
 
 pub keeps_on : (c e f : Core) → Keeps c e → Keeps e f → Keeps c f
 keeps_on c e f a b = record {
   zero_register = b.zero_register ∙ a.zero_register;
+  link_register = b.link_register ∙ a.link_register;
   frame_register = b.frame_register ∙ a.frame_register;
   frames_left = b.frames_left ∙ a.frames_left;
   homes = λ r h. b.homes r h ∙ a.homes r h;
@@ -27,9 +28,10 @@ keeps_on c e f a b = record {
 }
 
 -- a register that no other code relies on gets a value
-pub keeps_written : (c e : Core) (r v : ℕ) → eqb 0 (suc r) ≡ false → eqb 2 (suc r) ≡ false → eqb 8 (suc r) ≡ false → is_home_register (suc r) ≡ false → Keeps c e → Keeps c (written e (suc r) v)
-keeps_written c e r v zero_other two_other eight_other none k = record {
+pub keeps_written : (c e : Core) (r v : ℕ) → eqb 0 (suc r) ≡ false → eqb 1 (suc r) ≡ false → eqb 2 (suc r) ≡ false → eqb 8 (suc r) ≡ false → is_home_register (suc r) ≡ false → Keeps c e → Keeps c (written e (suc r) v)
+keeps_written c e r v zero_other one_other two_other eight_other none k = record {
   zero_register = ap (λ b. cond b v (e.registers 0)) zero_other ∙ k.zero_register;
+  link_register = ap (λ b. cond b v (e.registers 1)) one_other ∙ k.link_register;
   frame_register = ap (λ b. cond b v (e.registers 2)) two_other ∙ k.frame_register;
   frames_left = ap (λ b. cond b v (e.registers 8)) eight_other ∙ k.frames_left;
   homes = λ s h. assigned_other e.registers (suc r) v s (apart_from (suc r) s none h) ∙ k.homes s h;
@@ -53,7 +55,7 @@ temporary_is_no_home r h = grind (arith, nat_tests)
 
 pub keeps_temporary : (c e : Core) (r v : ℕ) → IsTrue (is_temporary r) → Keeps c e → Keeps c (written e r v)
 keeps_temporary c e zero v h k = absurd (true≢false (sym h))
-keeps_temporary c e (suc r) v h k = keeps_written c e r v (other 0 refl) (other 2 refl) (other 8 refl) (temporary_is_no_home (suc r) h) k
+keeps_temporary c e (suc r) v h k = keeps_written c e r v (other 0 refl) (other 1 refl) (other 2 refl) (other 8 refl) (temporary_is_no_home (suc r) h) k
   where
     other : (s : ℕ) → is_temporary s ≡ false → eqb s (suc r) ≡ false
     other s none = ne_eqb s (suc r) (temporary_apart (suc r) s none h)
@@ -63,6 +65,7 @@ keeps_temporary c e (suc r) v h k = keeps_written c e r v (other 0 refl) (other 
 pub keeps_but : (d : ℕ) (c e : Core) → Keeps c e → KeepsBut d c e
 keeps_but d c e k = record {
   zero_register = k.zero_register;
+  link_register = k.link_register;
   frame_register = k.frame_register;
   frames_left = k.frames_left;
   homes = λ r h ne. k.homes r h;

@@ -102,6 +102,7 @@ module _ (image : Image) (z : Sizes) (few : z.stack ≤ 8388608) (b : ℕ) where
   more_saved m moves d e last usable apart none all one s = record {
     rest = record {
       zero_register = s.rest.zero_register ∙ one.registers 0 (λ x. absurd (omega arith)) (λ x. absurd (omega arith));
+      link_register = s.rest.link_register ∙ one.registers 1 (λ x. absurd (omega arith)) (λ x. absurd (omega arith));
       frame_register = s.rest.frame_register ∙ one.registers 2 (λ x. absurd (omega arith)) (λ x. absurd (omega arith));
       frames_left = s.rest.frames_left ∙ one.registers 8 (λ x. absurd (omega arith)) (λ x. absurd (omega arith));
       table = s.rest.table ∙ one.table;
@@ -136,7 +137,7 @@ module _ (image : Image) (z : Sizes) (few : z.stack ≤ 8388608) (b : ℕ) where
   homes_saved [] {k} {c} {n} {j} d ws apart none usable inside two g = record {
     core = d;
     is = record {
-      rest = record { zero_register = refl; frame_register = refl; frames_left = refl; table = refl; cells = refl; blocks = refl; next_free = refl; printed = refl; arrivals = refl };
+      rest = record { zero_register = refl; link_register = refl; frame_register = refl; frames_left = refl; table = refl; cells = refl; blocks = refl; next_free = refl; printed = refl; arrivals = refl };
       registers = λ r five six. refl;
       got = λ m i. absurd i;
       others = λ x not. refl;
@@ -160,6 +161,7 @@ module _ (image : Image) (z : Sizes) (few : z.stack ≤ 8388608) (b : ℕ) where
   more_restored m moves d e last apart none all one s = record {
     rest = record {
       zero_register = s.rest.zero_register ∙ one.filled.rest.zero_register;
+      link_register = s.rest.link_register ∙ one.filled.rest.link_register;
       frame_register = s.rest.frame_register ∙ one.filled.rest.frame_register;
       frames_left = s.rest.frames_left ∙ one.filled.rest.frames_left;
       table = s.rest.table ∙ one.filled.rest.table;
@@ -190,7 +192,7 @@ module _ (image : Image) (z : Sizes) (few : z.stack ≤ 8388608) (b : ℕ) where
   homes_restored [] {k} {c} {n} {j} d ws apart none usable inside two g = record {
     core = d;
     is = record {
-      rest = record { zero_register = refl; frame_register = refl; frames_left = refl; table = refl; cells = refl; blocks = refl; next_free = refl; printed = refl; arrivals = refl };
+      rest = record { zero_register = refl; link_register = refl; frame_register = refl; frames_left = refl; table = refl; cells = refl; blocks = refl; next_free = refl; printed = refl; arrivals = refl };
       got = λ m i. absurd i;
       others = λ h u not. refl;
       registers = λ r five six not. refl;

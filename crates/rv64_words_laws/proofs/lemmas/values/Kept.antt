@@ -19,13 +19,13 @@ use Rattle.rv64_words_laws.specs.values.Operands.{is_result_register, Gives, End
 
 -- the registers that operations use
 pub keeps_five : (c e : Core) (v : ℕ) → Keeps c e → Keeps c (written e 5 v)
-keeps_five c e v k = keeps_written c e 4 v refl refl refl refl k
+keeps_five c e v k = keeps_written c e 4 v refl refl refl refl refl k
 
 pub keeps_six : (c e : Core) (v : ℕ) → Keeps c e → Keeps c (written e 6 v)
-keeps_six c e v k = keeps_written c e 5 v refl refl refl refl k
+keeps_six c e v k = keeps_written c e 5 v refl refl refl refl refl k
 
 pub keeps_seven : (c e : Core) (v : ℕ) → Keeps c e → Keeps c (written e 7 v)
-keeps_seven c e v k = keeps_written c e 6 v refl refl refl refl k
+keeps_seven c e v k = keeps_written c e 6 v refl refl refl refl refl k
 
 -- a register for results is none of the others
 pub result_apart : (d s : ℕ) → is_result_register s ≡ false → IsTrue (is_result_register d) → s ≢ d
@@ -35,6 +35,7 @@ pub keeps_result : (d : ℕ) (c e : Core) (v : ℕ) → IsTrue (is_result_regist
 keeps_result zero c e v h k = absurd (true≢false (sym h))
 keeps_result (suc d) c e v h k = record {
   zero_register = other 0 refl ∙ k.zero_register;
+  link_register = other 1 refl ∙ k.link_register;
   frame_register = other 2 refl ∙ k.frame_register;
   frames_left = other 8 refl ∙ k.frames_left;
   homes = λ r home ne. assigned_other e.registers (suc d) v r ne ∙ k.homes r home;
@@ -52,7 +53,7 @@ keeps_result (suc d) c e v h k = record {
 
 -- and those by which a run is ended
 pub keeps_called_off : (e : Core) (number : ℕ) → Keeps e (called_off number e)
-keeps_called_off e number = keeps_written e (written e 10 ((e.registers 0 + number) % 2 ^ 64)) 16 _ refl refl refl refl (keeps_written e e 9 _ refl refl refl refl (keeps_itself e))
+keeps_called_off e number = keeps_written e (written e 10 ((e.registers 0 + number) % 2 ^ 64)) 16 _ refl refl refl refl refl (keeps_written e e 9 _ refl refl refl refl refl (keeps_itself e))
 
 fault_named : (number : ℕ) (kind : Fault) → fault_of number ≡ Some kind → option_map Faulted (fault_of number) ≡ Some (Faulted kind)
 fault_named number kind is = ap (option_map Faulted) is
