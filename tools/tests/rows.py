@@ -59,6 +59,12 @@ def filled(rest):
     return b"".join(unescaped(text, number) for number in range(int(count)))
 
 
+def chained(count):
+    """The files of a line `chain COUNT`: each imports the next, and the last prints 7."""
+    files = {b"c%d.bril" % k: b'from "c%d.bril" import @main as @next; @main { call @next; }\n' % (k + 1) for k in range(count - 1)}
+    return {**files, b"c%d.bril" % (count - 1): b"@main { v: int = const 7; print v; }\n"}
+
+
 def lines_of(name):
     with open(os.path.join(ROWS, name), "rb") as file:
         return file.read().split(b"\n")[:-1]
@@ -101,6 +107,8 @@ def rows():
             files[path] += unescaped(rest)
         elif word == b"fill":
             files[path] += filled(rest)
+        elif word == b"chain":
+            files.update(chained(int(rest)))
         elif word == b"==":
             title, files, path, needs_memory, next_needs_memory = rest.decode(), {}, None, False, False
         elif word == b"file":

@@ -1,6 +1,7 @@
 // How a command line ends, also where the system gives no words.
 
 ghost use Rattle.std.specs.Prelude.{◌≡◌, IfOk, IfErr};
+ghost use Rattle.bril_cli.specs.Completeness.{IsComplete};
 ghost use Rattle.bril_cli.specs.End.{IsUntouched};
 ghost use Rattle.shipped_passes.specs.Shipped.{AreShipped, shipped_rows};
 ghost use Rattle.bril_commands.specs.Answers.{Promises};
@@ -31,6 +32,7 @@ pub fn end<F: Files, O: Sink, E: Sink>(
     requires shipped { AreShipped (λ p. meaning p) passes.old }
     ensures words { IfOk words (λ words. Promises result (call_of words (F.seen files.old) (F.seen files.new) (O.seen out.old) (O.seen out.new) (E.seen err.old) (E.seen err.new) (λ p. meaning p) (λ p. counts p) passes.old passes.new)) }
     ensures run { IfOk words (λ words. RunIsCorrect result (call_of words (F.seen files.old) (F.seen files.new) (O.seen out.old) (O.seen out.new) (E.seen err.old) (E.seen err.new) (λ p. meaning p) (λ p. counts p) passes.old passes.new)) }
+    ensures complete { IfOk words (λ words. IsComplete result (call_of words (F.seen files.old) (F.seen files.new) (O.seen out.old) (O.seen out.new) (E.seen err.old) (E.seen err.new) (λ p. meaning p) (λ p. counts p) passes.old passes.new)) }
     ensures budget { IfOk words (λ words. result ≡ 3 → IsPastBudget shipped_rows (call_of words (F.seen files.old) (F.seen files.new) (O.seen out.old) (O.seen out.new) (E.seen err.old) (E.seen err.new) (λ p. meaning p) (λ p. counts p) passes.old passes.new)) }
     ensures none { IfErr words (λ status. result ≡ status_number status) }
     ensures kept { IfErr words (λ _. passes.new ≡ passes.old) }

@@ -3,6 +3,7 @@
 ghost use Rattle.std.specs.Prelude.{◌≡◌, ◌≤◌, false};
 ghost use Rattle.std.specs.List.{All};
 ghost use Rattle.shipped_passes.specs.Shipped.{AreShipped, MakesAsShipped, shipped_rows};
+ghost use Rattle.bril_cli.specs.Completeness.{IsComplete};
 ghost use Rattle.bril_commands.specs.Answers.{Promises};
 ghost use Rattle.bril_commands.specs.Budgets.{IsPastBudget};
 ghost use Rattle.bril_commands.specs.Call.{call_of};
@@ -34,6 +35,8 @@ use std::alloc::Global;
 /// - `run` is the main theorem (`bril_commands/specs/RunIsCorrect.antt`): with the command `run`, an accepted program and arguments that it
 ///   takes, the status, `out` and `err` are those of the program by its semantics.
 /// - `promises` says the same of every command, what each status says, and when it comes (`bril_commands/specs/Answers.antt`).
+/// - `complete`: nothing is refused without a cause (`specs/Completeness.antt`). Where the words are taken, what is read is good and
+///   nothing fails outside, each command ends as one that did its work: with 0 or, where it runs a program, 2, 3 or 4.
 /// - `budget`: with the shipped passes `run` answers 3 only where the program has not ended after any number of steps for which `--steps`
 ///   is at least the budget of the list.
 /// - `plain`: words of the plain form ask for what stands in them, each option for its own value.
@@ -52,6 +55,7 @@ pub fn bril_top<F: Files, O: Sink, E: Sink>(
     ensures same { AllSame (λ p. meaning p) passes.old passes.new }
     ensures promises { Promises result (call_of words.now (F.seen files.old) (F.seen files.new) (O.seen out.old) (O.seen out.new) (E.seen err.old) (E.seen err.new) (λ p. meaning p) (λ p. counts p) passes.old passes.new) }
     ensures run { RunIsCorrect result (call_of words.now (F.seen files.old) (F.seen files.new) (O.seen out.old) (O.seen out.new) (E.seen err.old) (E.seen err.new) (λ p. meaning p) (λ p. counts p) passes.old passes.new) }
+    ensures complete { IsComplete result (call_of words.now (F.seen files.old) (F.seen files.new) (O.seen out.old) (O.seen out.new) (E.seen err.old) (E.seen err.new) (λ p. meaning p) (λ p. counts p) passes.old passes.new) }
     ensures budget { AreShipped (λ p. meaning p) passes.old → result ≡ 3 → IsPastBudget shipped_rows (call_of words.now (F.seen files.old) (F.seen files.new) (O.seen out.old) (O.seen out.new) (E.seen err.old) (E.seen err.new) (λ p. meaning p) (λ p. counts p) passes.old passes.new) }
     ensures plain { PlainAsk words.now }
     ensures refused { RefusedAlone words.now }

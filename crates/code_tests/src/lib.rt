@@ -5,14 +5,16 @@
 //!
 //! 1. The adapters over the system and over streams that fail (`src/adapters.rt`, `src/weak.rt`).
 //! 2. Each law of simulations (`src/laws.rt`) and of passes (`src/passes.rt`) at concrete types.
-//! 3. Lists of passes on the top call, with passes that the program doesn't have (`src/lists.rt`), and the demo
-//!    (`src/demos.rt`).
+//! 3. Lists of passes on the top call, with passes that the program doesn't have (`src/lists.rt`), the demo
+//!    (`src/demos.rt`), and calls after one in which something failed (`src/failures.rt`).
 #![tactic(auto)]
 
 #[cfg(test)]
 mod adapters;
 #[cfg(test)]
 mod demos;
+#[cfg(test)]
+mod failures;
 #[cfg(test)]
 mod laws;
 #[cfg(test)]

@@ -206,7 +206,8 @@ fn no_pass_runs_where_the_arguments_are_refused(rt: HostRuntime) -> Result<(), F
     Ok(())
 }
 
-// Calls the top call with these words after the program's name, and lends it the passes, which can be lent again.
+// Calls the top call with these words after the program's name, over a file of two items and outputs that take all, and lends it
+// the passes, which can be lent again.
 pub(crate) fn call(
     alloc: Global,
     words: &[&str],
@@ -222,17 +223,25 @@ pub(crate) fn call(
     for word in words {
         given.push(Text::of(alloc, word)?)?;
     }
-    let mut out = MemSink::new(alloc, 4096, Seq::new(alloc))?;
-    let mut err = MemSink::new(alloc, 4096, Seq::new(alloc))?;
-    let status = bril_top(
-        alloc,
-        given.as_slice(),
-        &mut files,
-        &mut out,
-        &mut err,
-        passes,
-    );
-    Ok(Ended { status, out, err })
+    let out = MemSink::new(alloc, 4096, Seq::new(alloc))?;
+    let err = MemSink::new(alloc, 4096, Seq::new(alloc))?;
+    Ok(call_on(alloc, &given, &mut files, out, err, passes))
+}
+
+// The same with all words, over these files and outputs.
+pub(crate) fn call_on(
+    alloc: Global,
+    words: &Seq<Text>,
+    files: &mut MemFiles,
+    mut out: MemSink,
+    mut err: MemSink,
+    passes: &mut [Box<dyn Pass>],
+) -> Ended
+    requires { All (λ p. MakesAsShipped (meaning p)) passes.old }
+    ensures { All (λ p. MakesAsShipped (meaning p)) passes.new }
+{
+    let status = bril_top(alloc, words.as_slice(), files, &mut out, &mut err, passes);
+    Ended { status, out, err }
 }
 
 // A pass that answers to every name, in a box.

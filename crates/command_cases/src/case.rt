@@ -84,6 +84,7 @@ impl Case {
             "+" => add_unescaped(self.alloc, rest, 0, &mut self.content),
             "fill" => self.fill(rest),
             "file" => self.begin_file(rest),
+            "chain" => self.add_chain(rest),
             "reads" => self.fail_reads(rest),
             "puts" => {
                 self.puts = numbers_of(self.alloc, rest)?;
@@ -159,6 +160,32 @@ impl Case {
         }
         self.content.clear();
         Ok(())
+    }
+
+    // Puts so many files, of which each imports `main` of the next and calls it, and the last prints 7.
+    fn add_chain(&mut self, line: &str) -> Result<(), LineFault> {
+        self.end_file()?;
+        let alloc = self.alloc;
+        let last = line
+            .parse::<u32>()
+            .map_err(|_| LineFault::Form)?
+            .saturating_sub(1);
+        for number in 0..last {
+            let next = number.saturating_add(1);
+            let path = format!(in alloc; "c{number}.bril")?;
+            let source = format!(in alloc;
+                "from \"c{next}.bril\" import @main as @next; @main {{ call @next; }}\n"
+            )?;
+            self.add_file(path.as_str(), source.as_bytes())?;
+        }
+        let path = format!(in alloc; "c{last}.bril")?;
+        self.add_file(path.as_str(), b"@main { v: int = const 7; print v; }\n")
+    }
+
+    // Puts the file at the path.
+    fn add_file(&mut self, path: &str, bytes: &[u8]) -> Result<(), LineFault> {
+        let path = text_of(self.alloc, path)?;
+        Ok(self.files.add(&path, bytes)?)
     }
 
     // No files, of which the reads of these numbers fail.

@@ -15,6 +15,7 @@
 //     file one.bril              a file, of what the next lines write
 //     |@main { }                 a line, verbatim, and LF
 //     + caf\xc3\xa9              bytes with escapes, and no LF
+//     chain 3                    files c0.bril, c1.bril and c2.bril, of which each imports `main` of the next, and calls it
 //     fill 3 x\#;                so many times the bytes, `\#` being 0, 1 and so on
 //     puts 2                     the puts of the next command, from 1, that fail
 //     errs 1                     the puts of the next command to the error output that fail

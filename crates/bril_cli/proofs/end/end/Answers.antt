@@ -10,3 +10,6 @@ returns-in-Ok-clause-budget g c = rw c.in-Ok.is (rw c.as_slice.ensures at (c.bri
 
 pub returns-in-Ok-clause-run : goal.returns-in-Ok-clause-run
 returns-in-Ok-clause-run g c = rw c.in-Ok.is (rw c.as_slice.ensures at c.bril_top.ensures.run)
+
+pub returns-in-Ok-clause-complete : goal.returns-in-Ok-clause-complete
+returns-in-Ok-clause-complete g c = rw c.in-Ok.is (rw c.as_slice.ensures at c.bril_top.ensures.complete)

@@ -7,6 +7,7 @@ use Rattle.bril_commands.proofs.RunIsCorrect.{RunIsCorrect-promised}
 use Rattle.bril_commands.specs.Answers.{Promises}
 use Rattle.bril_commands.specs.Call.{call_of}
 use Rattle.shipped_passes.proofs.Budgets.{AreShipped-within}
+use Rattle.bril_cli.proofs.Completeness.{IsComplete-promised}
 use Rattle.bril_cli.proofs.top.bril_top.Goals as goal
 
 pub answer-requires : goal.answer-requires
@@ -35,3 +36,6 @@ returns-clause-budget g c shipped =
 
 pub returns-clause-run : goal.returns-clause-run
 returns-clause-run g c = RunIsCorrect-promised _ _ (returns-clause-promises g c)
+
+pub returns-clause-complete : goal.returns-clause-complete
+returns-clause-complete g c = IsComplete-promised _ _ (returns-clause-promises g c)
