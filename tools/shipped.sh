@@ -1,11 +1,20 @@
-# What the launcher, tools/prove and the gate have in common, for a shell that reads this file: which crates the program is
-# made of, the sum of their sources, and what release/ says of the program that is shipped. $root is the top of the
-# repository.
+# What the launcher, tools/prove and the gate have in common, for a shell that reads this file: which crates the programs are
+# made of, the sum of their sources, and what release/ says of the programs that are shipped. $root is the top of the
+# repository, and $program_name the crate of the program that is spoken of: roolvist, or roolvist_explain.
 
-packed=$root/release/roolvist-x86_64-linux.gz
+case ${program_name:=roolvist} in
+    roolvist)
+        packed=$root/release/roolvist-x86_64-linux.gz
+        sum_word=program
+        ;;
+    *)
+        packed=$root/release/roolvist-explain-x86_64-linux.gz
+        sum_word=explain
+        ;;
+esac
 sums=$root/release/sums
 
-# The crates that the program is made of, itself among them, in the order of crates.txt: their lines there, or with $1 =
+# The crates that the programs are made of, themselves among them, in the order of crates.txt: their lines there, or with $1 =
 # names their names.
 program_crates() (
     set -f
@@ -30,6 +39,7 @@ program_crates() (
         done
     }
     visit roolvist
+    visit roolvist_explain
     IFS='
 '
     for line in $lines; do
@@ -68,7 +78,7 @@ sum_of() {
     }
 }
 
-# What release/sums says under a word: `version`, `program`, `sources` or `toolchain`.
+# What release/sums says under a word: `version`, `program`, `explain`, `sources` or `toolchain`.
 said_of() {
     while read -r word rest; do
         [ "$word" != "$1" ] || echo "$rest"
@@ -84,7 +94,7 @@ shipped_differs() {
         echo toolchain
     elif [ "$(said_of sources)" != "$(sources_sum)" ]; then
         echo sources
-    elif ! gzip -dc "$packed" | cmp -s - "$1" || [ "$(said_of program)" != "$(sum_of "$1")" ]; then
+    elif ! gzip -dc "$packed" | cmp -s - "$1" || [ "$(said_of "$sum_word")" != "$(sum_of "$1")" ]; then
         echo program
     fi
 }

@@ -1,0 +1,9 @@
+pub mod Command
+pub mod Executed
+pub mod Explained
+pub mod Files
+pub mod Locate
+pub mod Meaning
+pub mod Message
+pub mod Target
+pub mod Words

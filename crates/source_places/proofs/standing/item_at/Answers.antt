@@ -1,0 +1,29 @@
+-- What the search leaves begins where the grammar has it.
+use Rattle.std.proofs.Common.{◌≡◌, ◌∙◌, ◌-◌, List, ap, drop, length, map, subst, sym}
+use Rattle.bril_grammar.specs.Terminal.{Terminal}
+use Rattle.bril_grammar.specs.Written.{Source}
+use Rattle.bril_lex.specs.Cut.{AreTokens}
+use Rattle.bril_text.specs.Reading.{position_of}
+use Rattle.source_places.specs.Search.{body, past_items}
+use Rattle.source_places.specs.Sign.{sign_in}
+use Rattle.source_places.specs.Standing.{BeforeItem, IsItemAt}
+use Rattle.source_places.specs.declared.sign.Sign.{Sign}
+use Rattle.source_places.proofs.Found.{begins, item_found, tokens_in}
+use Rattle.source_places.proofs.standing.item_at.Goals as goal
+
+pub signs_of-requires : goal.signs_of-requires
+signs_of-requires c = tokens_in c.args.source.now _ _ c.as_slice-list.ensures c.in_ok-found.ensures.in_order c.in_ok-found.ensures.spelled
+
+pub position_of-requires : goal.position_of-requires
+position_of-requires c = tokens_in c.args.source.now _ _ c.as_slice-list.ensures c.in_ok-found.ensures.in_order c.in_ok-found.ensures.spelled
+
+pub returns-clause-at : goal.returns-clause-at
+returns-clause-at c =
+    let source = c.args.source.now in
+    let ts = c.as_slice-list.result.now in
+    let search : List Sign → List Sign = λ (signs : List Sign). past_items c.args.item (body signs c.args.func) in
+    let are : AreTokens source ts = subst (AreTokens source) (sym c.as_slice-list.ensures) c.in_ok-found.ensures.ok in
+    let signs : c.as_slice.result.now ≡ map (sign_in source) ts = c.as_slice.ensures ∙ c.in_ok-signs.ensures in
+    let left : c.past_items-left.result.now ≡ search (map (sign_in source) ts) = c.past_items-left.ensures ∙ ap (past_items c.args.item) (c.body.ensures ∙ ap (λ (s : List Sign). body s c.args.func) signs) in
+    subst (IsItemAt c.args.source.now c.args.func c.args.item) (sym (c.position_of.ensures.at ∙ ap (λ (s : List Sign). position_of source (drop (length ts - length s) ts)) left))
+    (begins source ts search (λ (w : Source) (before : List Terminal). BeforeItem w c.args.func c.args.item before) (λ w before h. item_found w c.args.func c.args.item before h) are)

@@ -1,0 +1,4 @@
+pub mod Place
+pub mod Search
+pub mod Sign
+pub mod Standing
