@@ -1,5 +1,6 @@
 // The shipped passes, lent to a job.
 
+ghost use Rattle.std.specs.Prelude.{IfOk};
 ghost use Rattle.shipped_passes.specs.Shipped.{AreShipped};
 
 use braun_ssa::Ssa;
@@ -17,14 +18,20 @@ use trace_stitcher::Stitch;
 pub trait Job: Drop {
     type Answer;
 
+    /// What the job is known to have done, by its answer.
+    ghost done: { Self → Self.Answer → Type 0 } = { λ _ _. Unit {0} };
+
     /// Does it.
     fn work(self, passes: &mut [Box<dyn Pass>]) -> Self::Answer
-        requires { AreShipped (λ p. meaning p) passes.old };
+        requires { AreShipped (λ p. meaning p) passes.old }
+        ensures { done self result };
 }
 
 /// Makes the shipped passes and lends them to the job, whose answer is handed on. The only error is out of memory, where the
 /// job isn't begun.
-pub fn with_shipped_passes<J: Job>(alloc: Global, job: J) -> Result<J::Answer, AllocError> {
+pub fn with_shipped_passes<J: Job>(alloc: Global, job: J) -> Result<J::Answer, AllocError>
+    ensures { IfOk result (J.done job) }
+{
     let trace = Box::new(alloc, Stitch::new())?;
     let ssa = Box::new(alloc, Ssa::new())?;
     let constant = Box::new(alloc, Const::new())?;

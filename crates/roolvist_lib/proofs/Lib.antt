@@ -1,0 +1,4 @@
+mod Held
+mod Pieces
+mod Plain
+mod Runs

@@ -1,0 +1,5 @@
+pub mod Answered
+pub mod Buffers
+pub mod Given
+pub mod Plain
+pub mod Seen
