@@ -1,5 +1,5 @@
-# Cases of tools/test: the command lines of examples/runs and of the pages, that the programs of examples/ do the same in all
-# ways, that output which can't be written is told, that a terminal gets each line at once, and the canonical texts.
+# Cases of tools/test: the command lines of examples/runs, of the tools and of the pages, that the programs of examples/ do the
+# same in all ways, that output which can't be written is told, that a terminal gets each line at once, and the canonical texts.
 
 # Runs a command line, and leaves what it writes on the two outputs in `out` and `err`, and its status in $status.
 run() {
@@ -60,10 +60,29 @@ replay_one() {
 
 replay show <examples/runs
 
-for page in README.md CONTRIBUTING.md docs/*.md; do
+# Those of the tools in Python.
+pages="README.md CONTRIBUTING.md $(echo docs/*.md)"
+if has "the command lines of tools/ and of docs/COURSE.md" python3; then
+    replay show <tools/tests/course.runs
+else
+    pages=${pages/docs\/COURSE.md/}
+fi
+
+for page in $pages; do
     awk '/^```console$/ { inside = 1; next } /^```$/ { inside = 0 } inside' "$page" >"$scratch/page"
     replay show_plainly <"$scratch/page"
 done
+
+# What tools/cfg writes is taken by dot, where that is installed.
+if has "the flow graphs" dot python3; then
+    for words in letters.bril levels.bril queue.bril 'factorial.bril --passes trace --profile examples/next.profile -- 20'; do
+        is_wanted "dot: $words" || continue
+        run "tools/cfg examples/$words | dot -Tsvg | grep -c '^</svg>'"
+        show
+        echo 1 >"$scratch/expected"
+        ends "dot: $words" "$scratch/expected" "$scratch/came"
+    done
+fi
 
 # tools/step by hand, here by a pipe: it shows the item at each stop, and its variables.
 step_by_hand() {
