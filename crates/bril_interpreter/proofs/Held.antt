@@ -9,7 +9,7 @@ use Rattle.bril_tree.specs.State.{Values, no_values, with_value}
 use Rattle.bril_tree.specs.Step.{assigned, arguments_from, new_frame, code_of}
 use Rattle.bril_heap.specs.Heap.{entries_of}
 use Rattle.bril_heap.proofs.Entries.{entries-set}
-use Rattle.bril_interpreter.specs.Frames.{LocalsView, locations_of, frame_of, with_dest, HasLocation, IsFrame, variable_count}
+use Rattle.bril_interpreter.specs.Frames.{LocalsView, locations_of, frame_of, with_dest, HasLocation, IsFrame, variable_count, shade_count}
 
 -- ---- a value for a destination or a shadow
 
@@ -56,20 +56,20 @@ arguments_held p limits vs n =
     λ i y. at y i
 
 -- the frame of a call, or the first of all
-pub new_frame-held : (p : Prog) (limits : Limits) (function : ℕ) (vs : List Value) (n : ℕ) (locations : LocalsView) → locations.vars ≡ map Some vs ++ replicate (n - length vs) None → locations.shadows ≡ replicate (n + 1) None
+pub new_frame-held : (p : Prog) (limits : Limits) (function : ℕ) (vs : List Value) (n shades : ℕ) (locations : LocalsView) → locations.vars ≡ map Some vs ++ replicate (n - length vs) None → locations.shadows ≡ replicate shades None
     → frame_of (record { function = function; point = 0; locations = locations; saves = [] }) ≡ new_frame function vs
-new_frame-held p limits function vs n locations vars shadows =
+new_frame-held p limits function vs n shades locations vars shadows =
     let held : entries_of locations.vars ≡ arguments_from 0 vs no_values = ap entries_of vars ∙ arguments_held p limits vs (n - length vs) in
-    let none : entries_of locations.shadows ≡ no_values = ap entries_of shadows ∙ no_entries (n + 1) in
+    let none : entries_of locations.shadows ≡ no_values = ap entries_of shadows ∙ no_entries shades in
     λ i. record { function = function; point = 0; locations = record { vars = held i; shadows = none i }; saves = [] }
 
-pub new_frame-kept : (p : Prog) (function : ℕ) (vs : List Value) (locations : LocalsView) → locations.vars ≡ map Some vs ++ replicate (variable_count p function - length vs) None → locations.shadows ≡ replicate (variable_count p function + 1) None
+pub new_frame-kept : (p : Prog) (function : ℕ) (vs : List Value) (shades : ℕ) (locations : LocalsView) → locations.vars ≡ map Some vs ++ replicate (variable_count p function - length vs) None → locations.shadows ≡ replicate shades None → shade_count p function ≤ shades
     → length (code_of p function) < 4294967295 → IsFrame p (record { function = function; point = 0; locations = locations; saves = [] })
-new_frame-kept p function vs locations vars shadows few =
+new_frame-kept p function vs shades locations vars shadows enough few =
     let n : ℕ = variable_count p function in
     let none : Option Value = None in
     let count : length locations.vars ≡ length vs + (n - length vs) = ap length vars ∙ length-append (map Some vs) (replicate (n - length vs) none) ∙ (let a = length-map vs (λ (v : Value). Some v) in let b = length-replicate (n - length vs) none in omega arith) in
-    let more : length locations.shadows ≡ n + 1 = ap length shadows ∙ length-replicate (n + 1) none in
+    let more : length locations.shadows ≡ shades = ap length shadows ∙ length-replicate shades none in
     record {
       locations = record { vars = omega arith; shadows = omega arith };
       saves = tt;

@@ -5,6 +5,7 @@ use Rattle.bril_tree.specs.declared.limits.End.{End}
 use Rattle.bril_tree.specs.declared.limits.Limits.{Limits}
 use Rattle.bril_tree.specs.declared.program.Prog.{Prog}
 use Rattle.bril_tree.specs.declared.value.Value.{Value}
+use Rattle.bril_tree.specs.Size.{IsCounted}
 use Rattle.bril_tree.specs.State.{Frame, State}
 use Rattle.bril_checker.specs.Checked.{CheckedView}
 use Rattle.bril_heap.specs.Heap.{CellsView, blocks_of}
@@ -43,8 +44,9 @@ state_of i = record {
   failures = count_at i.failures;
 }
 
--- what an interpreter keeps: its frames and its tables are those of its program, and its memory has its limit
+-- what an interpreter keeps: its program fits, its frames and its tables are those of its program, and its memory has its limit
 pub record IsInterp (p : Prog) (limits : Limits) (newest : FrameView) (older : List FrameView) (cells : CellsView) (tables : List TableView) : Type 0 where
+  pub counted : IsCounted p
   pub frame : IsFrame p newest
   pub callers : AllByRecursion (IsCaller p) older
   pub functions : AreTables p.funcs tables

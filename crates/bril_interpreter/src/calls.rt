@@ -6,15 +6,29 @@ ghost use Rattle.bril_tree.specs.Operand.{dest_of};
 use crate::frame::Frame;
 use crate::interp::Interp;
 use crate::locals::Locals;
-use crate::lookup::variables_of;
-use crate::table::blank_of;
+use crate::table::{blank_of, shades_in};
 use bril_tree::limits::{End, Fault};
 use bril_tree::numbered::Instr;
 use bril_tree::value::Value;
 use std::alloc::{AllocError, Global};
 use std::mem;
 
-// Keeps lists of locations for a later call or save, where there is room. Takes no memory.
+// Keeps a frame for a later call, where there is room. Takes no memory.
+fn keep_frame(returned: &mut Vec<Frame>, frame: Frame) {
+    if returned.len() < returned.capacity() {
+        returned.push_reserved(frame);
+    }
+}
+
+// A frame for a call, whatever it holds.
+fn spare_frame(returned: &mut Vec<Frame>, alloc: Global) -> Result<Frame, AllocError> {
+    match returned.pop() {
+        Some(used) => Ok(used),
+        None => Frame::start(alloc, 0, Locals::none(alloc)),
+    }
+}
+
+// Keeps lists of locations for a later save, where there is room. Takes no memory.
 pub fn keep(spare: &mut Vec<Locals>, lists: Option<Locals>) {
     if let Some(lists) = lists {
         if spare.len() < spare.capacity() {
@@ -23,7 +37,7 @@ pub fn keep(spare: &mut Vec<Locals>, lists: Option<Locals>) {
     }
 }
 
-// Lists of locations for a call or a save, whatever they hold. Takes no memory.
+// Lists of locations for a save, whatever they hold. Takes no memory.
 pub fn spare_lists(spare: &mut Vec<Locals>, alloc: Global) -> Locals {
     match spare.pop() {
         Some(used) => used,
@@ -61,7 +75,7 @@ impl<'a> Interp<'a> {
             return Ok(());
         }
         let frame = self.new_frame(callee, args)?;
-        self.spare.reserve(self.older.len() + 1)?;
+        self.returned.reserve(self.older.len() + 1)?;
         self.older.reserve(1)?;
         let caller = mem::replace(&mut self.newest, frame);
         self.older.push_reserved(caller);
@@ -75,11 +89,12 @@ impl<'a> Interp<'a> {
         ensures form { IfOk result (λ frame. IsFrame self.old.checked.prog frame) }
     {
         let alloc = *self.older.allocator();
-        let mut locations = spare_lists(&mut self.spare, alloc);
-        let variables = variables_of(self.checked.prog(), callee);
-        let blank = blank_of(self.tables.as_slice(), callee);
-        locations.renew(self.newest.locations(), args, variables, blank)?;
-        Ok(Frame::start(alloc, callee, locations))
+        let mut frame = spare_frame(&mut self.returned, alloc)?;
+        let tables = self.tables.as_slice();
+        let blank = blank_of(tables, callee);
+        let shades = shades_in(tables, callee);
+        frame.renew(callee, self.newest.locations(), args, blank, shades)?;
+        Ok(frame)
     }
 
     // The newest frame is popped, and its value goes to the call at which its caller stands.
@@ -90,7 +105,7 @@ impl<'a> Interp<'a> {
             None => self.finish(),
             Some(caller) => {
                 let done = mem::replace(&mut self.newest, caller);
-                keep(&mut self.spare, Some(done.into_locations()));
+                keep_frame(&mut self.returned, done);
                 let dest = self.awaited();
                 self.give(dest, value);
             }

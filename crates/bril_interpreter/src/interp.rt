@@ -29,7 +29,8 @@ pub struct Interp<'a> {
     pub(crate) cells: Cells,
     pub(crate) ended: Option<End>,
     pub(crate) tables: Vec<Table>,
-    // The lists of calls that returned, for later calls.
+    // The frames of calls that returned, for later calls, and the lists of dropped saves, for later ones.
+    pub(crate) returned: Vec<Frame>,
     pub(crate) spare: Vec<Locals>,
     pub(crate) failed: bool,
 }
@@ -78,14 +79,16 @@ impl<'a> Interp<'a> {
         let program = prog.prog();
         let main = program.main;
         let locations = Locals::start(alloc, args, variables_of(program, main))?;
+        let newest = Frame::start(alloc, main, locations)?;
         Ok(Interp {
             checked: prog,
             limits,
-            newest: Frame::start(alloc, main, locations),
+            newest,
             older: Vec::new(alloc),
             cells: Cells::new(alloc, limits.cells),
             ended: None,
             tables: tables_of(alloc, program.funcs.as_slice())?,
+            returned: Vec::new(alloc),
             spare: Vec::new(alloc),
             failed: false,
         })

@@ -17,6 +17,7 @@ invariant_of-self c =
     let there : slice_get tables function ≡ Some table = slice_get_read tables (length tables) function table refl within (rw c.function.ensures at c.index_mut-table.ensures.value) in
     rw (c.count_failure.ensures, c.function.ensures)
     (record {
+      counted = kept.counted;
       frame = kept.frame;
       callers = kept.callers;
       functions = tables-counted c.self.inside.checked.now.prog.funcs tables function table _ kept.functions there (length-set table.failures c.point.result _);

@@ -6,6 +6,7 @@ invariant_of-self c =
     let kept = c.self.invariant in
     rw c.go_to.ensures
     (record {
+      counted = kept.counted;
       frame = record {
         locations = kept.frame.locations;
         saves = kept.frame.saves;

@@ -1,14 +1,14 @@
-use Rattle.std.proofs.Common.{◌≡◌, ◌∙◌, ℕ, zero, suc, ◌+◌, ◌-◌, List, [], ◌∷◌, ◌++◌, drop, length, map, replicate, Option, Some, None, sym, ap, arith}
-use Rattle.std.proofs.lemmas.List.{length-map, replicate_more}
+use Rattle.std.proofs.Common.{◌≡◌, ◌∙◌, ℕ, zero, suc, ◌-◌, List, ◌++◌, drop, length, map, replicate, Option, Some, None, sym, ap, arith}
+use Rattle.std.proofs.lemmas.List.{length-map}
 use Rattle.bril_tree.specs.declared.value.Value.{Value}
 use Rattle.bril_tree.specs.State.{read}
 use Rattle.bril_tree.specs.Step.{new_frame}
 use Rattle.bril_heap.specs.Heap.{entries_of}
-use Rattle.bril_interpreter.specs.Frames.{LocalsView, variable_count, frame_of}
+use Rattle.bril_interpreter.specs.Frames.{LocalsView, variable_count, shade_count, frame_of}
 use Rattle.bril_interpreter.specs.Interpreter.{InterpView}
 use Rattle.bril_interpreter.proofs.Held.{new_frame-held, new_frame-kept}
 use Rattle.bril_interpreter.proofs.Known.{code_few}
-use Rattle.bril_interpreter.proofs.Tables.{blank_found}
+use Rattle.bril_interpreter.proofs.Tables.{blank_found, shades_found}
 use Rattle.bril_interpreter.proofs.interp.Interp.new_frame.Goals as goal
 
 -- empty entries
@@ -30,32 +30,31 @@ renewed n value args vars blank is e =
     ∙ ap (λ entries. held ++ entries) (empty-behind (length args) n)
     ∙ ap (λ k. held ++ empty (n - k)) (sym (length-map args value))
 
-shadowed : (n : ℕ) (shadows blank : List (Option Value)) → blank ≡ empty n → shadows ≡ blank ++ None ∷ [] → shadows ≡ empty (n + 1)
-shadowed n shadows blank is e = e ∙ ap (λ (entries : List (Option Value)). entries ++ None ∷ []) is ∙ replicate_more n None
-
 pub returns-clause-frame : goal.returns-clause-frame
 returns-clause-frame c =
     let i = c.args.self.now in
     let p = c.self.inside.checked.now.prog in
     let n = variable_count p c.args.callee in
-    let blank : c.blank_of-blank.result.now ≡ empty n = (rw c.as_slice.ensures.value at c.blank_of-blank.ensures) ∙ blank_found p c.self.inside.tables.items c.args.callee c.self.invariant.functions in
+    let blank : c.blank_of-blank.result.now ≡ empty n = (rw c.as_slice-tables.ensures.value at c.blank_of-blank.ensures) ∙ blank_found p c.self.inside.tables.items c.args.callee c.self.invariant.functions in
+    let shades : c.shades_in-shades.result.now ≡ empty (shade_count p c.args.callee) = (rw c.as_slice-tables.ensures.value at c.shades_in-shades.ensures) ∙ shades_found p c.self.inside.tables.items c.args.callee c.self.invariant.functions in
     let locations : c.locations.result.now ≡ i.newest.locations = c.locations.ensures ∙ ap (λ (i : InterpView). i.newest.locations) c.self.view_is in
     let value : ℕ → Value = read (entries_of c.locations.result.now.vars) in
-    ap frame_of c.start.ensures
-    ∙ new_frame-held i.checked.prog i.limits c.args.callee (map value c.args.args.now) n c.renew.new.self
-    (renewed n value c.args.args.now c.renew.new.self.vars c.blank_of-blank.result.now blank c.in_ok-renew.ensures.vars)
-    (shadowed n c.renew.new.self.shadows c.blank_of-blank.result.now blank c.in_ok-renew.ensures.shadows)
+    ap frame_of c.in_ok-renew.ensures.frame
+    ∙ new_frame-held i.checked.prog i.limits c.args.callee (map value c.args.args.now) n (shade_count p c.args.callee) c.renew.new.self.locations
+    (renewed n value c.args.args.now c.renew.new.self.locations.vars c.blank_of-blank.result.now blank c.in_ok-renew.ensures.vars)
+    (c.in_ok-renew.ensures.shadows ∙ shades)
     ∙ ap (λ (locations : LocalsView). new_frame c.args.callee (map (read (entries_of locations.vars)) c.args.args.now)) locations
 
 pub returns-clause-form : goal.returns-clause-form
 returns-clause-form c =
     let p = c.self.inside.checked.now.prog in
     let n = variable_count p c.args.callee in
-    let same : c.prog.result.now ≡ p = c.prog.ensures.value in
-    let blank : c.blank_of-blank.result.now ≡ empty n = (rw c.as_slice.ensures.value at c.blank_of-blank.ensures) ∙ blank_found p c.self.inside.tables.items c.args.callee c.self.invariant.functions in
+    let blank : c.blank_of-blank.result.now ≡ empty n = (rw c.as_slice-tables.ensures.value at c.blank_of-blank.ensures) ∙ blank_found p c.self.inside.tables.items c.args.callee c.self.invariant.functions in
+    let shades : c.shades_in-shades.result.now ≡ empty (shade_count p c.args.callee) = (rw c.as_slice-tables.ensures.value at c.shades_in-shades.ensures) ∙ shades_found p c.self.inside.tables.items c.args.callee c.self.invariant.functions in
     let value : ℕ → Value = read (entries_of c.locations.result.now.vars) in
-    rw (c.start.ensures, ← c.self.view_is)
-    (new_frame-kept p c.args.callee (map value c.args.args.now) c.renew.new.self
-    (renewed n value c.args.args.now c.renew.new.self.vars c.blank_of-blank.result.now blank c.in_ok-renew.ensures.vars)
-    (shadowed n c.renew.new.self.shadows c.blank_of-blank.result.now blank c.in_ok-renew.ensures.shadows)
-    (code_few p (rw same at c.prog.ensures.counted) c.args.callee))
+    rw (c.in_ok-renew.ensures.frame, ← c.self.view_is)
+    (new_frame-kept p c.args.callee (map value c.args.args.now) (shade_count p c.args.callee) c.renew.new.self.locations
+    (renewed n value c.args.args.now c.renew.new.self.locations.vars c.blank_of-blank.result.now blank c.in_ok-renew.ensures.vars)
+    (c.in_ok-renew.ensures.shadows ∙ shades)
+    (omega arith)
+    (code_few p c.self.invariant.counted c.args.callee))
