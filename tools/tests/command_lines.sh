@@ -166,7 +166,7 @@ fi
 # and as machine words after passes. One that ends or stops with a fault is recorded too, with two numbers of arrivals after
 # which a label counts as hot, and prints and ends alike after all passes, with its own profile, with that in version 1, and
 # with that of the run before. Steps and counts are left out, since they differ.
-all_passes=trace,side,ssa,const,dead,unssa,merge,tidy
+all_passes=trace,side,ssa,const,dead,unssa,merge,tidy,color
 
 # What is left of a run is expected of the others, but for the name of the command in a usage line.
 same_command='s/^(! Usage: roolvist) (interp|run)/\1/'

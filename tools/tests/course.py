@@ -25,7 +25,7 @@ except ImportError:
 ROOT = os.path.dirname(os.path.dirname(os.path.dirname(os.path.abspath(__file__))))
 EXAMPLES = os.path.join(ROOT, "examples")
 BENCHMARKS = os.path.join(EXAMPLES, "benchmarks")
-ALL_PASSES = "trace,side,ssa,const,dead,unssa,merge,tidy"
+ALL_PASSES = "trace,side,ssa,const,dead,unssa,merge,tidy,color"
 SECONDS = 60
 
 sys.dont_write_bytecode = True

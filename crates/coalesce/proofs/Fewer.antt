@@ -11,10 +11,12 @@ use Rattle.bril_tree.specs.declared.numbered_function.Func.{Func}
 use Rattle.bril_tree.specs.declared.program.Prog.{Prog}
 use Rattle.bril_tree.specs.Numbered.{item_tree, names_of_functions, nop_item}
 use Rattle.pass_edit_laws.specs.plan.Marked.{with_nops}
-use Rattle.coalesce.proofs.lemmas.meaning.Copying.{copy-is}
 use Rattle.graph_search.specs.Marks.{is_marked}
+use Rattle.variable_renaming.proofs.Copying.{copy-is}
+use Rattle.variable_renaming.specs.Made.{CopyWithin, MarksCopies}
+use Rattle.coalesce.specs.meaning.Merged.{NoneApart}
 use Rattle.coalesce.specs.Copies.{copies_in, copies_of_code, is_copy, is_named_copy}
-use Rattle.coalesce.specs.Rounds.{IsRoundFunction, MarksCopies}
+use Rattle.coalesce.specs.Rounds.{IsRoundFunction}
 
 -- one item more
 copies-cons : (i : Item) (items : List Item) → copies_in (i ∷ items) ≡ cond (is_named_copy i) 1 0 + copies_in items
@@ -87,8 +89,17 @@ module _ (fs : List (List ℕ)) (F : Func) (news : List (List ℕ)) (marks : Lis
       omega arith
 
 -- a function of a round
-pub round-left : (P : Prog) (F : Func) (g : FuncTree) → IsRoundFunction P F g → copies_in g.code ≤ copies_of_code F.code
-round-left P F g t =
-    let e = ap (λ (h : FuncTree). copies_in h.code) t.tree in
-    let l = function-left (names_of_functions P.funcs) F t.news t.marks in
-    omega arith
+module _ (P : Prog) (F : Func) (g : FuncTree) (t : IsRoundFunction P F g) where
+  same : copies_in g.code ≡ copies_in (with_nops nop_item t.made.marks (map (item_tree (names_of_functions P.funcs) t.made.news F.labels) F.code))
+  same = ap (λ (h : FuncTree). copies_in h.code) t.made.tree
+
+  pub round-left : copies_in g.code ≤ copies_of_code F.code
+  round-left = let l = function-left (names_of_functions P.funcs) F t.made.news t.made.marks in let e = same in omega arith
+
+  -- where there are as many, no two variables were joined, so no copy is apart
+  pub round-settled : copies_of_code F.code ≤ copies_in g.code → NoneApart F
+  round-settled as_many = t.known.settled (λ point c. by point c (is_marked t.made.marks point) refl)
+    where
+      by : (point : ℕ) → CopyWithin F t.class point → (b : Bool) → is_marked t.made.marks point ≡ b → ⊥
+      by point c true e = let l = function-fewer (names_of_functions P.funcs) F t.made.news t.made.marks t.class t.made.marked point e in omega (arith, as_many, same)
+      by point c false e = t.made.marked.all point e c

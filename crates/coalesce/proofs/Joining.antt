@@ -1,15 +1,18 @@
 -- A variable that is alone gets the name of another class.
-use Rattle.std.proofs.Common.{◌≡◌, ◌≢◌, ◌⊎◌, ℕ, zero, suc, ◌<◌, ◌≤◌, Bool, true, false, cond, not, ◌&&◌, eqb, List, [], ◌∷◌, length, get_or, set, Option, Some, None, refl, sym, ap, subst, ◌∙◌, inl, inr, ⊎_elim, arith}
+use Rattle.std.proofs.Common.{◌≡◌, ◌≢◌, ◌⊎◌, ℕ, ◌<◌, ◌≤◌, Bool, true, false, cond, not, ◌&&◌, eqb, List, length, set, Option, Some, None, refl, sym, ap, subst, ◌∙◌, inl, inr, ⊎_elim, arith}
 use Rattle.std.specs.Prelude.{slice_get}
 use Rattle.std.specs.List.{Contains}
 use Rattle.std.proofs.lemmas.Bool.{and_parts, cases_eq, cases_lt, eq-eqb, eqb-true, and_cases, or_cases}
 use Rattle.std.proofs.lemmas.List.{get_or-set_same, get_or-set_other, length-set}
 use Rattle.bril_tree.specs.declared.numbered_function.Func.{Func}
 use Rattle.bril_tree.specs.Typing.{variable_type}
-use Rattle.coalesce.specs.meaning.Apart.{AreApart, HasShadow}
+use Rattle.variable_renaming.specs.Apart.{AreApart, HasShadow}
+use Rattle.variable_renaming.specs.Clashes.{Clashes}
+use Rattle.variable_renaming.specs.Classes.{MayJoin, class_of, source_at}
+use Rattle.variable_renaming.proofs.Editing.{outside}
 use Rattle.coalesce.specs.meaning.Linked.{AreLinked}
 use Rattle.graph_search.specs.Marks.{is_marked}
-use Rattle.coalesce.specs.Classes.{AreClashes, Clashes, Fits, IsRoundState, MayJoin, Misfits, OtherType, TwoShadows, KeptApart, class_of, clash, is_source, shadows_joined, source_at}
+use Rattle.coalesce.specs.Classes.{AreClashes, Fits, IsRoundState, Misfits, OtherType, TwoShadows, KeptApart, clash, is_source, shadows_joined}
 use Rattle.coalesce.specs.declared.clashes.Clash.{Clash}
 
 -- ---- lists
@@ -25,12 +28,6 @@ mark-other marks x z b n = get_or-set_other marks x z b false n
 
 mark-here : (marks : List Bool) (x : ℕ) (b : Bool) → x < length marks → is_marked (set marks x b) x ≡ b
 mark-here marks x b less = get_or-set_same marks x b false less
-
--- a mark has a place
-pub outside : {A : Type 0} (l : List A) (n : ℕ) (d : A) → length l ≤ n → get_or l n d ≡ d
-outside [] n d high = refl
-outside (y ∷ l) zero d high = absurd (omega arith)
-outside (y ∷ l) (suc n) d high = outside l n d (omega arith)
 
 marked-inside : (marks : List Bool) (x : ℕ) → is_marked marks x ≡ true → x < length marks
 marked-inside marks x e = ⊎_elim (λ l. l) (λ high. absurd (let f : true ≡ false = sym e ∙ outside marks x false high in cc)) (cases_lt x (length marks))
@@ -165,9 +162,9 @@ module _ (F : Func) (related : List Bool) (list : List Clash) (clashes : AreClas
         inside = λ z low. ⊎_elim (λ e. subst (λ n. n < length F.vars) (sym (ap (class_of new) e ∙ here)) inside) (λ n. subst (λ m. m < length F.vars) (sym (other z n)) (s.are.inside z low)) (cases_eq z x);
         arguments = λ z low. other z (λ e. omega (arith, e)) ∙ s.are.arguments z low;
         named = new-named;
-        linked = λ z. ⊎_elim (λ e. subst (λ n. AreLinked F n (class_of new n)) (sym e) (subst (AreLinked F x) (sym here) linked)) (λ n. subst (AreLinked F z) (sym (other z n)) (s.are.linked z)) (cases_eq z x);
         joined = new-joined;
       };
+      linked = λ z. ⊎_elim (λ e. subst (λ n. AreLinked F n (class_of new n)) (sym e) (subst (AreLinked F x) (sym here) linked)) (λ n. subst (AreLinked F z) (sym (other z n)) (s.linked z)) (cases_eq z x);
       alone_long = length-set (set alone x false) k false ∙ length-set alone x false ∙ s.alone_long;
       shadow_long = long-shadow (is_marked shadow x);
       own = λ z e. let w = was-alone z e in other z w.1 ∙ s.own z w.0;

@@ -10,8 +10,9 @@ use Rattle.std.proofs.lemmas.Option.{slice_get-get_or, same_Some}
 use Rattle.bril_tree.specs.declared.numbered.Instr.{Instr}
 use Rattle.bril_tree.specs.declared.numbered_function.Func.{Func}
 use Rattle.graph_search.specs.Marks.{is_marked}
+use Rattle.variable_renaming.specs.Classes.{class_of}
 use Rattle.coalesce.specs.meaning.Linked.{AreLinked}
-use Rattle.coalesce.specs.Classes.{AreRelated, Fits, Grows, IsNextState, IsRoundState, MayLookAt, NoneKeepsApart, SomeKeepsApart, class_of, keeps_apart, shadows_joined}
+use Rattle.coalesce.specs.Classes.{AreRelated, Fits, Grows, IsNextState, IsRoundState, MayLookAt, NoneKeepsApart, SomeKeepsApart, keeps_apart, shadows_joined}
 use Rattle.coalesce.specs.declared.clashes.Clash.{Clash}
 use Rattle.coalesce.proofs.lemmas.meaning.Linking.{linked-onwards, linked-turned}
 use Rattle.coalesce.proofs.Joining.{class-here, class-other, put-state}
@@ -30,7 +31,7 @@ module _ (F : Func) (related : List Bool) (list : List Clash) (class : List ℕ)
   joined-state : IsRoundState F related (set class x k) (set (set alone x false) k false) (shadows_joined shadow x k) true
   joined-state =
       put-state F related list may.clashes class alone shadow joined s x k there behind names (subst (λ n. n < length F.vars) (sym is) (s.are.inside y both.second_below)) (λ e. both.differ (sym (s.single x y there (sym is ∙ sym e)))) both.first_marked
-      (⊎_elim (λ e. subst (λ n. is_marked related n ≡ true) (sym e) both.second_marked) (λ n. s.relates k y n (names ∙ is)) (cases_eq k y)) (subst (AreLinked F x) (sym is) (linked-onwards F x y (class_of class y) may.linked (s.are.linked y))) fits
+      (⊎_elim (λ e. subst (λ n. is_marked related n ≡ true) (sym e) both.second_marked) (λ n. s.relates k y n (names ∙ is)) (cases_eq k y)) (subst (AreLinked F x) (sym is) (linked-onwards F x y (class_of class y) may.linked (s.linked y))) fits
 
   -- what is of one class stays so, and x is of the class of y
   put-grows : (class' : List ℕ) → class' ≡ set class x k → Grows class class'

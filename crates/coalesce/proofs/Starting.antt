@@ -1,27 +1,22 @@
 -- Where a round begins: each variable is alone, and marks tell which are related and which have a shadow that items name.
-use Rattle.std.proofs.Common.{◌≡◌, ◌⊎◌, ℕ, ◌+◌, ◌<◌, ◌≤◌, Bool, true, false, List, [], ◌∷◌, length, get_or, replicate, Some, None, refl, sym, ap, subst, ◌∙◌, inl, inr, ⊎_elim, arith}
-use Rattle.std.specs.Prelude.{slice_get, slice_index, is_some}
-use Rattle.std.specs.List.{Contains}
+use Rattle.std.proofs.Common.{◌≡◌, ◌⊎◌, ℕ, ◌+◌, ◌<◌, ◌≤◌, Bool, true, false, List, length, get_or, replicate, Some, None, refl, sym, ap, subst, ◌∙◌, ⊎_elim, arith}
+use Rattle.std.specs.Prelude.{slice_get, is_some}
 use Rattle.std.proofs.lemmas.Bool.{cases_eq, cases_lt}
 use Rattle.std.proofs.lemmas.List.{get_or-replicate, length-replicate}
-use Rattle.std.proofs.lemmas.Option.{get_or_from_slice_get, slice_get_within, slice_get-get_or, same_Some}
+use Rattle.std.proofs.lemmas.Option.{slice_get_within, slice_get-get_or, same_Some}
 use Rattle.bril_tree.specs.declared.numbered.Instr.{Instr}
 use Rattle.bril_tree.specs.declared.numbered_function.Func.{Func}
-use Rattle.bril_tree.specs.declared.operation.Op.TheVariants as op
-use Rattle.bril_tree.specs.FunctionForm.{variables_of}
-use Rattle.bril_tree.specs.Membership.{In}
-use Rattle.bril_tree.specs.Shape.{is_shaped, shape_fault_of, shape_of}
-use Rattle.bril_tree.proofs.Formed.{variable_below}
-use Rattle.bril_tree.proofs.Shapes.{shape-parts}
-use Rattle.bril_checker.proofs.Positions.{all_pass}
-use Rattle.coalesce.specs.meaning.Apart.{Copies, HasShadow, shadows_of}
+use Rattle.bril_tree.specs.Shape.{shape_fault_of}
+use Rattle.variable_renaming.proofs.Copying.{copy-below}
+use Rattle.variable_renaming.specs.Apart.{Copies, HasShadow}
+use Rattle.variable_renaming.specs.Classes.{class_of}
+use Rattle.variable_renaming.specs.Made.{CopyWithin, IsCopyWithin}
 use Rattle.coalesce.specs.meaning.Linked.{AreLinked, Same}
 use Rattle.coalesce.specs.meaning.Merged.{NoneApart}
-use Rattle.coalesce.proofs.lemmas.meaning.Copying.{copy-is}
 use Rattle.bril_tree.specs.Walk.{IsReached}
-use Rattle.coalesce.specs.Rounds.{CopyWithin, HasCopyWithin, IsCopyWithin}
+use Rattle.coalesce.specs.Rounds.{AreRoundClasses, HasCopyWithin}
 use Rattle.graph_search.specs.Marks.{is_marked}
-use Rattle.coalesce.specs.Classes.{AreAlone, AreRelated, Grows, IsRelatedItem, IsRoundState, MarksShadow, NotApart, Relates, class_of}
+use Rattle.coalesce.specs.Classes.{AreAlone, AreRelated, Grows, AreLinkedClasses, IsRelatedItem, IsRoundState, NotApart, Relates}
 
 -- ---- each variable alone
 
@@ -33,9 +28,9 @@ first-state F related class alone shadow n many long own same shadow_long all on
     inside = λ x low. subst (λ y. y < length F.vars) (sym (own x)) low;
     arguments = λ x low. own x;
     named = λ x. ap (class_of class) (own x);
-    linked = λ x. subst (AreLinked F x) (sym (own x)) (Same x);
     joined = λ x y differ e. absurd (differ (one x y e));
   };
+  linked = λ x. subst (AreLinked F x) (sym (own x)) (Same x);
   alone_long = ap length same ∙ length-replicate n true ∙ many;
   shadow_long = shadow_long;
   own = λ x e. own x;
@@ -51,19 +46,6 @@ first-state F related class alone shadow n many long own same shadow_long all on
     one x y e = sym (own x) ∙ e ∙ own y
 
 -- ---- related variables
-
-first_in : (xs : List ℕ) (y : ℕ) → slice_index xs 0 ≡ y → length xs ≡ 1 → In y xs
-first_in [] y e n = absurd (omega arith)
-first_in (x ∷ xs) y e n = inl (sym e)
-
--- the variables of a copy are the function's
-pub copy-below : (F : Func) → shape_fault_of (is_some F.ret) F.code ≡ None → (point : ℕ) (item : Instr) → slice_get F.code point ≡ Some item → (x y : ℕ) → Copies item x y → (x < length F.vars) × (y < length F.vars)
-copy-below F shaped point item at x y c =
-    let k = copy-is item x y c in
-    let s : is_shaped (is_some F.ret) item ≡ true = subst (λ a. is_shaped (is_some F.ret) a ≡ true) (get_or_from_slice_get F.code point item item at) (all_pass (is_shaped (is_some F.ret)) F.code (sym shaped) point item (slice_get_within F.code point item at)) in
-    let one : length k.args ≡ 1 = (shape-parts (shape_of (is_some F.ret) op.Id) true (length k.args) (length k.funcs) (length k.labels) (subst (λ (a : Instr). is_shaped (is_some F.ret) a ≡ true) k.is s)).args_are in
-    let vars : In x (variables_of item) × In y (variables_of item) = subst (λ (a : Instr). In x (variables_of a) × In y (variables_of a)) (sym k.is) (inl refl, inr (first_in k.args y k.source one)) in
-    (variable_below F point item at x vars.0, variable_below F point item at y vars.1)
 
 pub related-more : (F : Func) → shape_fault_of (is_some F.ret) F.code ≡ None → (old new : List Bool) (items : List Instr) → items ≡ F.code → (n : ℕ) (item : Instr) → n < length items → item ≡ get_or items n item → length old ≡ length F.vars → Relates item old new
     → ((point : ℕ) (a : Instr) → point < n → slice_get F.code point ≡ Some a → IsRelatedItem F old a) → (point : ℕ) (a : Instr) → point < n + 1 → slice_get F.code point ≡ Some a → IsRelatedItem F new a
@@ -88,28 +70,6 @@ related-more F shaped old new items same n item low is long r before point a les
 
     earlier : (point ≡ n → ⊥) → AreRelated F new x y
     earlier e = let h = before point a (⊎_elim (λ l. l) (λ high. absurd (e (omega arith))) (cases_lt point n)) at x y c d in marked (r.kept x h.first_marked) (r.kept y h.second_marked)
-
--- ---- shadows
-
--- the marks after so many items
-pub record AreMarked (F : Func) (n : ℕ) (marks : List Bool) : Type 0 where
-  pub long : length marks ≡ length F.vars
-  pub all : (x point : ℕ) (item : Instr) → point < n → slice_get F.code point ≡ Some item → Contains (shadows_of item) x → x < length F.vars → is_marked marks x ≡ true
-  pub only : (x : ℕ) → is_marked marks x ≡ true → HasShadow F.code x
-
-pub more-marked : (F : Func) (old new : List Bool) (items : List Instr) → items ≡ F.code → (n : ℕ) (item : Instr) → n < length items → item ≡ get_or items n item → AreMarked F n old → MarksShadow item old new → AreMarked F (n + 1) new
-more-marked F old new items same n item low is a m = record {
-  long = m.long ∙ a.long;
-  all = λ x point b less at i inside.
-      ⊎_elim
-      (λ e. let one : b ≡ item = same_Some b item (sym at ∙ ap (slice_get F.code) e ∙ there) in m.all x (subst (λ z. Contains (shadows_of z) x) one i) (omega (arith, a.long)))
-      (λ e. m.kept x (a.all x point b (⊎_elim (λ l. l) (λ high. absurd (e (omega arith))) (cases_lt point n)) at i inside))
-      (cases_eq point n);
-  only = λ x e. ⊎_elim (λ h. a.only x h) (λ i. record { point = n; item = item; at = there; names = i }) (m.only x e);
-}
-  where
-    there : slice_get F.code n ≡ Some item
-    there = ap (λ l. slice_get l n) (sym same) ∙ slice_get-get_or items n item low ∙ ap Some (sym is)
 
 -- ---- the loop over the items
 
@@ -140,3 +100,8 @@ copied-more F n items same item low is class more old new grows within before e 
 
 pub looked-all : (F : Func) (n : ℕ) (joined : Bool) → length F.code ≤ n → AreLookedAt F n joined → joined ≡ false → NoneApart F
 looked-all F n joined long looked e point item x y reached at c differ apart = let l = slice_get_within F.code point item at in looked e point item (omega arith) reached at x y c differ apart
+
+-- what a round knows of its classes
+pub round-classes : (F : Func) (class : List ℕ) (joined : Bool) → AreLinkedClasses F class → HasCopyWithin F class joined → (joined ≡ false → NoneApart F) → AreRoundClasses F class
+round-classes F class true linked copied none = record { linked = linked; settled = λ nowhere. absurd (nowhere (copied refl).0 (copied refl).1) }
+round-classes F class false linked copied none = record { linked = linked; settled = λ nowhere. none refl }

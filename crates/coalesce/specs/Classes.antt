@@ -1,29 +1,18 @@
 -- What a round finds in a function: clashes of variables, and classes of variables that get one name.
-use Rattle.std.specs.Prelude.{◌≡◌, ◌≢◌, ◌⊎◌, ◌==◌, ◌&&◌, ◌||◌, not, ℕ, suc, ◌<◌, Bool, true, false, List, [], ◌∷◌, length, Option, Some, None, slice_get, slice_index_or, if◌then◌else◌, slice_set}
+use Rattle.std.specs.Prelude.{◌≡◌, ◌≢◌, ◌⊎◌, ◌==◌, ◌&&◌, ◌||◌, not, ℕ, suc, ◌<◌, Bool, true, false, List, [], ◌∷◌, length, Option, Some, None, slice_get, if◌then◌else◌, slice_set}
 use Rattle.std.specs.List.{Contains}
 use Rattle.bril_tree.specs.declared.numbered.Instr.{Instr}
 use Rattle.bril_tree.specs.declared.numbered_function.Func.{Func}
-use Rattle.bril_tree.specs.Live.{IsLive}
-use Rattle.bril_tree.specs.Operand.{Variable, dest_of}
 use Rattle.bril_tree.specs.Typing.{variable_type}
-use Rattle.bril_tree.specs.Walk.{IsReached}
 use Rattle.flow_graph.specs.declared.reads.Access.{Access}
 use Rattle.graph_search.specs.Marks.{is_marked}
-use Rattle.coalesce.specs.meaning.Apart.{AreApart, Copies, HasShadow, shadows_of, source_of}
+use Rattle.variable_renaming.specs.Apart.{AreApart, Copies, HasShadow}
+use Rattle.variable_renaming.specs.Classes.{AreSoundClasses, class_of, source_at}
+use Rattle.variable_renaming.specs.Clashes.{Clashes}
 use Rattle.coalesce.specs.meaning.Linked.{AreLinked}
 use Rattle.coalesce.specs.declared.clashes.Clash.{Clash}
 
 -- ---- clashes
-
--- a reached item assigns x, and isn't a copy of y, which is live just after it
-pub record Clashes (code : List Instr) (item x y : ℕ) : Type 0 where
-  pub reached : IsReached code item
-  pub instr : Instr
-  pub at : slice_get code item ≡ Some instr
-  pub dest : dest_of instr ≡ Some x
-  pub differ : x ≢ y
-  pub other : source_of instr ≡ Some y → ⊥
-  pub live : IsLive code (Variable y) (suc item)
 
 abbrev pub clash : (item x y : ℕ) → Clash
 clash item x y = record { item = item; one = x; other = y }
@@ -44,42 +33,23 @@ firsts_from k (c ∷ list) = record { item = k; location = c.one } ∷ firsts_fr
 
 -- ---- classes
 
--- the class of a variable; its own where the list has none
-abbrev pub class_of : List ℕ → ℕ → ℕ
-class_of class x = slice_index_or class x x
-
 -- the source is the variable x, or one of the class k
 abbrev pub is_source : List ℕ → (x k : ℕ) → Option ℕ → Bool
 is_source class x k None = false
 is_source class x k (Some z) = (z == x) || (class_of class z == k)
 
-abbrev pub source_at : Option Instr → Option ℕ
-source_at None = None
-source_at (Some item) = source_of item
-
 -- the clash is with a variable of the class, and its item is no copy that becomes one of a variable to itself
 abbrev pub keeps_apart : List Instr → List ℕ → (k : ℕ) → Clash → Bool
 keeps_apart code class k c = (class_of class c.other == k) && not (is_source class c.one k (source_at (slice_get code c.item)))
 
--- two variables of one class may have one name
-pub record MayJoin (F : Func) (class : List ℕ) (x y : ℕ) : Type 0 where
-  pub types : variable_type F.vars x ≡ variable_type F.vars y
-  pub shadows : HasShadow F.code x → HasShadow F.code y → ⊥
-  pub spares : (item : ℕ) → Clashes F.code item x y → (z : ℕ) × (source_at (slice_get F.code item) ≡ Some z) × (class_of class z ≡ class_of class x)
-
--- The classes of a function's variables: each is named by one of its variables, with which copies link the others, and that of an
--- argument by the argument.
-pub record AreClasses (F : Func) (class : List ℕ) : Type 0 where
-  pub long : length class ≡ length F.vars
-  pub inside : (x : ℕ) → x < length F.vars → class_of class x < length F.vars
-  pub arguments : (x : ℕ) → x < F.args → class_of class x ≡ x
-  pub named : (x : ℕ) → class_of class (class_of class x) ≡ class_of class x
-  pub linked : (x : ℕ) → AreLinked F x (class_of class x)
-  pub joined : (x y : ℕ) → x ≢ y → class_of class x ≡ class_of class y → MayJoin F class x y
+-- copies link each variable with the one that names its class
+abbrev pub AreLinkedClasses : Func → List ℕ → Type 0
+AreLinkedClasses F class = (x : ℕ) → AreLinked F x (class_of class x)
 
 -- The state of a round: which classes have one variable, and which have a variable whose shadow is named.
 pub record IsRoundState (F : Func) (related : List Bool) (class : List ℕ) (alone shadow : List Bool) (joined : Bool) : Type 0 where
-  pub are : AreClasses F class
+  pub are : AreSoundClasses F class
+  pub linked : AreLinkedClasses F class
   pub alone_long : length alone ≡ length F.vars
   pub shadow_long : length shadow ≡ length F.vars
   -- a variable that is alone names its class, which has no other
@@ -175,10 +145,3 @@ pub record Relates (item : Instr) (old new : List Bool) : Type 0 where
   pub long : length new ≡ length old
   pub kept : (x : ℕ) → is_marked old x ≡ true → is_marked new x ≡ true
   pub both : (x y : ℕ) → Copies item x y → (x < length old → is_marked new x ≡ true) × (y < length old → is_marked new y ≡ true)
-
--- so has the variable whose shadow it names, and no other one
-pub record MarksShadow (item : Instr) (old new : List Bool) : Type 0 where
-  pub long : length new ≡ length old
-  pub kept : (x : ℕ) → is_marked old x ≡ true → is_marked new x ≡ true
-  pub only : (x : ℕ) → is_marked new x ≡ true → (is_marked old x ≡ true) ⊎ Contains (shadows_of item) x
-  pub all : (x : ℕ) → Contains (shadows_of item) x → x < length old → is_marked new x ≡ true

@@ -2,28 +2,30 @@
 
 ghost use Rattle.std.specs.Prelude.{◌≡◌, ◌⊎◌, Some, ◌<◌, ◌≤◌, ◌^◌, ◌-◌, ◌&&◌, ℕ, true, false, None, is_some, IfOk, OnOk, length, slice_get, slice_set};
 ghost use Rattle.std.specs.List.{All, Contains};
-ghost use Rattle.bril_tree.specs.Typing.{variable_type};
 ghost use Rattle.bril_tree.specs.Shape.{shape_fault_of};
 ghost use Rattle.bril_tree.specs.Sites.{AreSitesSound};
 ghost use Rattle.bril_tree.specs.declared.numbered.Instr.{Instr};
 ghost use Rattle.bril_tree.specs.Walk.{IsReached};
 ghost use Rattle.flow_graph.specs.Graph.{IsGraphOf};
-ghost use Rattle.coalesce.specs.meaning.Apart.{AreApart, HasShadow};
+ghost use Rattle.variable_renaming.specs.Apart.{AreApart};
+ghost use Rattle.variable_renaming.specs.Classes.{AreSoundClasses, class_of, source_at};
+ghost use Rattle.variable_renaming.specs.Made.{IsCopyWithin};
 ghost use Rattle.coalesce.specs.meaning.Merged.{NoneApart};
 ghost use Rattle.coalesce.specs.declared.clashes.Clash.{Clash};
-ghost use Rattle.coalesce.specs.Rounds.{HasCopyWithin, IsCopyWithin};
+ghost use Rattle.coalesce.specs.Rounds.{HasCopyWithin};
 ghost use Rattle.graph_search.specs.Marks.{is_marked};
-ghost use Rattle.coalesce.specs.Classes.{AreAlone, AreClashes, AreClasses, Fits, MarksShadow, MayLookAt, Relates, IsLinkedItem, IsNextState, IsRelatedItem, IsRoundState, Misfits, NoneKeepsApart, NotApart, SomeKeepsApart, class_of, firsts_from, is_source, keeps_apart, shadows_joined, source_at};
+ghost use Rattle.coalesce.specs.Classes.{AreAlone, AreClashes, AreLinkedClasses, Fits, IsLinkedItem, IsNextState, IsRelatedItem, IsRoundState, MayLookAt, Misfits, NoneKeepsApart, NotApart, Relates, SomeKeepsApart, firsts_from, is_source, keeps_apart, shadows_joined};
 
-use crate::clashes::{Clash, Related, clashes_of};
-use crate::copies::{dest_of, shadow_of, source_of};
+use crate::clashes::{Clash, clashes_of};
 use bril_tree::numbered::Instr;
 use bril_tree::numbered_function::Func;
-use bril_tree::typing::same_result;
 use flow_graph::{Access, AccessLists, Graph};
 use graph_search::{is_marked, number_of_length};
 use live_sets::Flow;
 use std::alloc::{AllocError, Global};
+use variable_renaming::{
+    Related, are_of_one_type, class_of, dest_of, mark, numbers_below, shadowed_variables, source_of,
+};
 
 // The class of each variable, by the variable that names it; which variables are a class alone; which classes have a variable
 // whose shadow some item names; and whether any two were joined.
@@ -90,27 +92,6 @@ fn source_at(func: &Func, item: u32) -> Option<u32>
     }
 }
 
-// Whether the two variables are of one type.
-fn are_of_one_type(func: &Func, x: u32, y: u32) -> bool
-    requires x { x < length func.now.vars }
-    requires y { y < length func.now.vars }
-    ensures same { result ≡ true → variable_type func.now.vars x ≡ variable_type func.now.vars y }
-    ensures other { result ≡ false → variable_type func.now.vars x ≡ variable_type func.now.vars y → ⊥ }
-{
-    let vars = func.vars.as_slice();
-    same_result(vars[x as usize].ty, vars[y as usize].ty)
-}
-
-// Marks a variable, where it has a mark.
-fn mark(marks: &mut Vec<bool>, x: u32)
-    ensures { marks.new.items ≡ slice_set marks.old.items x true }
-{
-    let k = x as usize;
-    if k < marks.len() {
-        marks[k] = true;
-    }
-}
-
 // Marks the variables of an item, where it copies one to another.
 fn relate(related: &mut Vec<bool>, item: &Instr)
     ensures { Relates item.now related.old.items related.new.items }
@@ -134,41 +115,6 @@ fn related_variables(alloc: Global, func: &Func) -> Result<Vec<bool>, AllocError
     Ok(related)
 }
 
-// Marks the variable whose shadow the item names, where it names one.
-fn mark_shadow(marks: &mut Vec<bool>, item: &Instr)
-    ensures { MarksShadow item.now marks.old.items marks.new.items }
-{
-    if let Some(x) = shadow_of(item) {
-        mark(marks, x);
-    }
-}
-
-// A mark for each variable whose shadow some item names.
-fn shadowed_variables(alloc: Global, func: &Func) -> Result<Vec<bool>, AllocError>
-    ensures long { IfOk result (λ marks. length marks.items ≡ length func.now.vars) }
-    ensures all { IfOk result (λ marks. (x : ℕ) → x < length func.now.vars → HasShadow func.now.code x → is_marked marks.items x ≡ true) }
-    ensures only { IfOk result (λ marks. (x : ℕ) → is_marked marks.items x ≡ true → HasShadow func.now.code x) }
-{
-    let mut marks = vec![in alloc; false; func.vars.as_slice().len()]?;
-    for item in func.code.as_slice() {
-        mark_shadow(&mut marks, item);
-    }
-    Ok(marks)
-}
-
-// The numbers below a bound, in order.
-fn numbers_below(alloc: Global, count: usize) -> Result<Vec<u32>, AllocError>
-    requires { count ≤ 2 ^ 32 }
-    ensures long { IfOk result (λ numbers. length numbers.items ≡ count) }
-    ensures own { IfOk result (λ numbers. (x : ℕ) → class_of numbers.items x ≡ x) }
-{
-    let mut numbers = Vec::new(alloc);
-    for x in 0..count {
-        numbers.push(x as u32)?;
-    }
-    Ok(numbers)
-}
-
 // The classes of a function's variables: sound, and where no two were joined, no copy is apart. A function with 2^32 variables
 // or more is taken to need more memory than there is.
 pub(crate) fn classes_in(alloc: Global, func: &Func, graph: &Graph) -> Result<Classes, AllocError>
@@ -176,7 +122,8 @@ pub(crate) fn classes_in(alloc: Global, func: &Func, graph: &Graph) -> Result<Cl
     requires few { length func.now.code < 2 ^ 32 - 1 }
     requires graph { IsGraphOf func.now.code graph.now }
     requires sound { AreSitesSound func.now.code }
-    ensures are { IfOk result (λ classes. AreClasses func.now classes.class.items) }
+    ensures are { IfOk result (λ classes. AreSoundClasses func.now classes.class.items) }
+    ensures linked { IfOk result (λ classes. AreLinkedClasses func.now classes.class.items) }
     ensures alone { IfOk result (λ classes. classes.joined ≡ false → AreAlone classes.class.items) }
     ensures none { IfOk result (λ classes. classes.joined ≡ false → NoneApart func.now) }
     ensures copied { IfOk result (λ classes. HasCopyWithin func.now classes.class.items classes.joined) }
@@ -223,11 +170,7 @@ impl Classes {
     fn class_of(&self, x: u32) -> u32
         ensures { result ≡ class_of self.now.class.items x }
     {
-        if (x as usize) < self.class.len() {
-            self.class[x as usize]
-        } else {
-            x
-        }
+        class_of(self.class.as_slice(), x)
     }
 
     // Whether the source is the variable x, or one of the class.

@@ -91,7 +91,7 @@ const CASES: [Case; 22] = [
         err: "cannot read b.bril\n",
     },
     Case {
-        words: "run sum.bril --passes trace,ssa,const,dead,unssa,merge,tidy,side --profile t.prof -- 100",
+        words: "run sum.bril --passes trace,ssa,const,dead,unssa,merge,tidy,side,color --profile t.prof -- 100",
         failing: Failing::Read(2),
         status: 66,
         out: "",

@@ -13,10 +13,11 @@ use Rattle.ssa_exit.proofs.Shipped.{unssa_shipped}
 use Rattle.ssa_form_laws.proofs.Shipped.{ssa_shipped}
 use Rattle.tidy_code.proofs.Shipped.{tidy_shipped}
 use Rattle.trace_laws.proofs.Shipped.{trace_shipped}
+use Rattle.variable_coloring.proofs.Shipped.{color_shipped}
 
 -- all of them, in their order
 abbrev pub shipped : List Shipped
-shipped = trace_shipped ∷ ssa_shipped ∷ const_shipped ∷ dead_shipped ∷ unssa_shipped ∷ merge_shipped ∷ tidy_shipped ∷ side_shipped ∷ []
+shipped = trace_shipped ∷ ssa_shipped ∷ const_shipped ∷ dead_shipped ∷ unssa_shipped ∷ merge_shipped ∷ tidy_shipped ∷ side_shipped ∷ color_shipped ∷ []
 
 abbrev pub shipped_rows : List Row
 shipped_rows = rows_of shipped

@@ -13,6 +13,7 @@ use ssa_exit::Unssa;
 use std::alloc::{AllocError, Global};
 use tidy_code::Tidy;
 use trace_stitcher::Stitch;
+use variable_coloring::Color;
 
 /// What is done with the shipped passes.
 pub trait Job: Drop {
@@ -40,6 +41,7 @@ pub fn with_shipped_passes<J: Job>(alloc: Global, job: J) -> Result<J::Answer, A
     let merge = Box::new(alloc, Merge::new())?;
     let tidy = Box::new(alloc, Tidy::new())?;
     let side = Box::new(alloc, Side::new())?;
+    let color = Box::new(alloc, Color::new())?;
     let trace: Box<dyn Pass> = trace;
     let ssa: Box<dyn Pass> = ssa;
     let constant: Box<dyn Pass> = constant;
@@ -48,6 +50,7 @@ pub fn with_shipped_passes<J: Job>(alloc: Global, job: J) -> Result<J::Answer, A
     let merge: Box<dyn Pass> = merge;
     let tidy: Box<dyn Pass> = tidy;
     let side: Box<dyn Pass> = side;
-    let mut passes = [trace, ssa, constant, dead, unssa, merge, tidy, side];
+    let color: Box<dyn Pass> = color;
+    let mut passes = [trace, ssa, constant, dead, unssa, merge, tidy, side, color];
     Ok(job.work(passes.as_mut_slice()))
 }

@@ -3,7 +3,7 @@ use Rattle.std.specs.Prelude.{◌≡◌, ◌⊎◌, ℕ, Some, slice_get}
 use Rattle.bril_tree.specs.declared.numbered.Instr.{Instr}
 use Rattle.bril_tree.specs.declared.numbered_function.Func.{Func}
 use Rattle.bril_tree.specs.Walk.{IsReached}
-use Rattle.coalesce.specs.meaning.Apart.{Copies}
+use Rattle.variable_renaming.specs.Apart.{Copies}
 
 -- a walk leads to an item that copies one of the variables to the other
 pub record HasReachedCopy (F : Func) (x y : ℕ) : Type 0 where

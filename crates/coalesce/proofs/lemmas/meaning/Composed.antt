@@ -37,25 +37,25 @@ use Rattle.pass_edit_laws.proofs.lemmas.names.Items.{item-shares, zip-at}
 use Rattle.pass_edit_laws.specs.plan.Plan.{ItemsMatch}
 use Rattle.pass_edit_laws.proofs.lemmas.steps.Shapes.{shaped_here}
 use Rattle.pass_edit_laws.proofs.lemmas.walks.Accepting.{matched}
-use Rattle.coalesce.specs.meaning.Apart.{Copies, source_in}
-use Rattle.coalesce.specs.meaning.Merged.{IsMerged, IsRenamed, IsRenamedAt, IsRound, NoneApart, IsSelfCopy, renamed_dest, renamed_item}
-use Rattle.coalesce.proofs.lemmas.meaning.Accepted.{walks}
-use Rattle.coalesce.proofs.lemmas.meaning.Copying.{copy-is}
+use Rattle.variable_renaming.proofs.Accepted.{walks}
+use Rattle.variable_renaming.proofs.Copying.{copy-is, copy-below}
+use Rattle.variable_renaming.proofs.Names.{named-map}
+use Rattle.variable_renaming.proofs.Numbers.{numbers-kept}
+use Rattle.variable_renaming.proofs.Points.{both, no-item, no-older}
+use Rattle.variable_renaming.proofs.Refines.{copy-nop, renaming_plan, preserves}
+use Rattle.variable_renaming.specs.Apart.{Copies, source_in}
+use Rattle.variable_renaming.specs.Renamed.{IsRenamedAt, IsRenaming, IsSelfCopy, renamed_dest, renamed_item}
+use Rattle.coalesce.specs.meaning.Merged.{AreNewNames, IsMerged, IsRenamed, IsRound, NoneApart}
 use Rattle.coalesce.proofs.lemmas.meaning.Linking.{copy-links}
-use Rattle.coalesce.proofs.lemmas.meaning.Names.{named-map}
-use Rattle.coalesce.proofs.lemmas.meaning.Numbers.{numbers-kept}
-use Rattle.coalesce.proofs.lemmas.meaning.Points.{both, no-item, no-older}
-use Rattle.coalesce.proofs.lemmas.meaning.Refines.{copy-nop, merge_plan, preserves}
 use Rattle.coalesce.proofs.lemmas.meaning.Renamings.{AreOldCopies, OldCopy, names-twice}
-use Rattle.coalesce.proofs.Starting.{copy-below}
 
--- ---- a round reaches the same points
+-- ---- a renaming reaches the same points
 
-module _ (P Q : Prog) (rename : ℕ → List ℕ → List ℕ) (t : IsRound P Q rename) (accepted : IsAccepted P) (f : ℕ) where
-  onwards : (i : ℕ) → IsReached (code_of P f) i → ReachedBeside (merge_plan P Q rename t) P Q f i → (w : Branch) → In w (branches_at (code_of P f) i) → ReachedBeside (merge_plan P Q rename t) P Q f w.to
-  onwards i was r w among = ⊎_elim (λ s. copied s.0) (λ k. regular-reaches (merge_plan P Q rename t) P Q f (preserves P Q rename t accepted) i r.j was r.points r.reached k.0 w among) (t.points f i)
+module _ (P Q : Prog) (rename : ℕ → List ℕ → List ℕ) (t : IsRenaming P Q rename) (accepted : IsAccepted P) (f : ℕ) where
+  onwards : (i : ℕ) → IsReached (code_of P f) i → ReachedBeside (renaming_plan P Q rename t) P Q f i → (w : Branch) → In w (branches_at (code_of P f) i) → ReachedBeside (renaming_plan P Q rename t) P Q f w.to
+  onwards i was r w among = ⊎_elim (λ s. copied s.0) (λ k. regular-reaches (renaming_plan P Q rename t) P Q f (preserves P Q rename t accepted) i r.j was r.points r.reached k.0 w among) (t.points f i)
     where
-      copied : IsSelfCopy P f (rename f) i → ReachedBeside (merge_plan P Q rename t) P Q f w.to
+      copied : IsSelfCopy P f (rename f) i → ReachedBeside (renaming_plan P Q rename t) P Q f w.to
       copied s =
           let c = copy-is s.item s.x s.y s.copies in
           let at : item_at P f i ≡ Some (Act (Some s.x) c.ty op.Id c.args c.funcs c.labels) = s.at ∙ ap Some c.is in
@@ -63,12 +63,12 @@ module _ (P Q : Prog) (rename : ℕ → List ℕ → List ℕ) (t : IsRound P Q 
           let here : In (onward i) (branches_at (code_of Q f) i) = subst (λ o. In (onward i) (branches_from (code_of Q f) i o)) (sym (copy-nop P Q rename t f i s)) (inl refl) in
           record { j = suc i; points = ap (λ (v : Branch). v.to) branch; reached = reached_on (code_of Q f) i (onward i) (subst (IsReached (code_of Q f)) (sym r.points) r.reached) here }
 
-  pub round-reaches : (i : ℕ) → IsReached (code_of P f) i → IsReached (code_of Q f) i
-  round-reaches i was = let r = reached_points (merge_plan P Q rename t) P Q f (preserves P Q rename t accepted) onwards i was in subst (IsReached (code_of Q f)) (sym r.points) r.reached
+  pub renaming-reaches : (i : ℕ) → IsReached (code_of P f) i → IsReached (code_of Q f) i
+  renaming-reaches i was = let r = reached_points (renaming_plan P Q rename t) P Q f (preserves P Q rename t accepted) onwards i was in subst (IsReached (code_of Q f)) (sym r.points) r.reached
 
-  pub round-was : (F G : Func) → slice_get P.funcs f ≡ Some F → slice_get Q.funcs f ≡ Some G → (i : ℕ) → IsReached (code_of Q f) i → IsReached (code_of P f) i
-  round-was F G p q i now =
-      let l = matched (merge_plan P Q rename t) P Q f F.args G.args (walks P Q rename t accepted f F G p q) now.walk now.is in
+  pub renaming-was : (F G : Func) → slice_get P.funcs f ≡ Some F → slice_get Q.funcs f ≡ Some G → (i : ℕ) → IsReached (code_of Q f) i → IsReached (code_of P f) i
+  renaming-was F G p q i now =
+      let l = matched (renaming_plan P Q rename t) P Q f F.args G.args (walks P Q rename t accepted f F G p q) now.walk now.is in
       record { walk = l.walk; is = l.matches.is; ends = l.matches.points ∙ now.ends }
 
 -- ---- copies beside each other
@@ -202,6 +202,9 @@ module _ (P Q : Prog) (heads : SameHeads P Q) (accepted : IsAccepted P) (accepte
 
 -- ---- one round more
 
+pub new-names : (P Q : Prog) (rename : ℕ → List ℕ → List ℕ) → IsRound P Q rename → (f : ℕ) (F : Func) → slice_get P.funcs f ≡ Some F → AreNewNames F (rename f)
+new-names P Q rename t f F p = let k = t.renaming.names f F p in record { arguments = k.arguments; own = k.own; linked = t.linked f F p }
+
 -- what rounds made so far
 pub record IsMadeSoFar (P Q : Prog) : Type 0 where
   pub heads : SameHeads P Q
@@ -226,10 +229,10 @@ module _ (P Q R : Prog) (so_far : IsMadeSoFar P Q) (accepted : IsAccepted P) (re
 
         -- a `nop` stays
         still : tree_at Q f i ≡ Some nop_item → tree_at R f i ≡ Some nop_item
-        still n = ⊎_elim (λ s. s.1) (λ k. k.1 ∙ ap (option_map (renamed_item (rename f))) n) (t.points f i)
+        still n = ⊎_elim (λ s. s.1) (λ k. k.1 ∙ ap (option_map (renamed_item (rename f))) n) (t.renaming.points f i)
 
         kept : (IsSelfCopy P f m.rename i → ⊥) × (tree_at Q f i ≡ option_map (renamed_item m.rename) (tree_at P f i)) → IsRenamedAt P f twice R i
-        kept k = ⊎_elim (λ s. inl (back s.0, s.1)) (λ n. inr ((λ s. n.0 (there s)), n.1 ∙ ap (option_map (renamed_item (rename f))) k.1 ∙ option-twice m.rename (rename f) (tree_at P f i))) (t.points f i)
+        kept k = ⊎_elim (λ s. inl (back s.0, s.1)) (λ n. inr ((λ s. n.0 (there s)), n.1 ∙ ap (option_map (renamed_item (rename f))) k.1 ∙ option-twice m.rename (rename f) (tree_at P f i))) (t.renaming.points f i)
           where
             back : IsSelfCopy Q f (rename f) i → IsSelfCopy P f twice i
             back s =
@@ -268,36 +271,36 @@ module _ (P Q R : Prog) (so_far : IsMadeSoFar P Q) (accepted : IsAccepted P) (re
     once_more : IsRenamed P R f F
     once_more = record {
       rename = twice;
-      names = names-twice F G m.rename m.names (rename f) (t.names f G q) (t.others f G q) old-copy (argument-name P Q so_far.heads f F G p q);
+      names = names-twice F G m.rename m.names (rename f) (new-names Q R rename t f G q) (t.renaming.others f G q) old-copy (argument-name P Q so_far.heads f F G p q);
       points = further;
     }
 
   pub one-more : IsMadeSoFar P R
   one-more = record {
     heads = record {
-      names = so_far.heads.names ∙ t.heads.names;
-      args = λ f F H p h. let G = partner P Q so_far.heads f F p in so_far.heads.args f F G.0 p G.1 ∙ t.heads.args f G.0 H G.1 h;
-      ret = λ f F H p h. let G = partner P Q so_far.heads f F p in so_far.heads.ret f F G.0 p G.1 ∙ t.heads.ret f G.0 H G.1 h;
+      names = so_far.heads.names ∙ t.renaming.heads.names;
+      args = λ f F H p h. let G = partner P Q so_far.heads f F p in so_far.heads.args f F G.0 p G.1 ∙ t.renaming.heads.args f G.0 H G.1 h;
+      ret = λ f F H p h. let G = partner P Q so_far.heads f F p in so_far.heads.ret f F G.0 p G.1 ∙ t.renaming.heads.ret f G.0 H G.1 h;
     };
     renamed = λ f F p. let G = partner P Q so_far.heads f F p in once_more f F G.0 p G.1;
-    reaches = λ f i reached. round-reaches Q R rename t so_far.accepted f i (so_far.reaches f i reached);
+    reaches = λ f i reached. renaming-reaches Q R rename t.renaming so_far.accepted f i (so_far.reaches f i reached);
     was = λ f F p i reached.
         let G = partner P Q so_far.heads f F p in
-        let H = partner Q R t.heads f G.0 G.1 in
-        so_far.was f F p i (round-was Q R rename t so_far.accepted f G.0 H.0 G.1 H.1 i reached);
+        let H = partner Q R t.renaming.heads f G.0 G.1 in
+        so_far.was f F p i (renaming-was Q R rename t.renaming so_far.accepted f G.0 H.0 G.1 H.1 i reached);
     accepted = accepted_r;
   }
 
 -- the first round
 pub first-round : (P Q : Prog) (rename : ℕ → List ℕ → List ℕ) → IsRound P Q rename → IsAccepted P → IsAccepted Q → IsMadeSoFar P Q
 first-round P Q rename t accepted accepted_q = record {
-  heads = t.heads;
-  renamed = λ f F p. record { rename = rename f; names = t.names f F p; points = t.points f };
-  reaches = λ f i reached. round-reaches P Q rename t accepted f i reached;
-  was = λ f F p i reached. let G = partner P Q t.heads f F p in round-was P Q rename t accepted f F G.0 p G.1 i reached;
+  heads = t.renaming.heads;
+  renamed = λ f F p. record { rename = rename f; names = new-names P Q rename t f F p; points = t.renaming.points f };
+  reaches = λ f i reached. renaming-reaches P Q rename t.renaming accepted f i reached;
+  was = λ f F p i reached. let G = partner P Q t.renaming.heads f F p in renaming-was P Q rename t.renaming accepted f F G.0 p G.1 i reached;
   accepted = accepted_q;
 }
 
 -- where no copy is apart any more, it is what the pass makes
 pub all-made : (P Q : Prog) → IsMadeSoFar P Q → IsAccepted P → ((f : ℕ) (F : Func) → slice_get Q.funcs f ≡ Some F → NoneApart F) → IsMerged P Q
-all-made P Q m accepted none = record { heads = m.heads; renamed = m.renamed; none = none; numbers = numbers-kept P Q accepted m.accepted m.heads m.renamed }
+all-made P Q m accepted none = record { heads = m.heads; renamed = m.renamed; none = none; numbers = numbers-kept P Q accepted m.accepted m.heads (λ f F p. let n = m.renamed f F p in record { rename = n.rename; arguments = n.names.arguments; points = n.points }) }

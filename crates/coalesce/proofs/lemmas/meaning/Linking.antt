@@ -4,7 +4,7 @@ use Rattle.std.specs.Prelude.{slice_get}
 use Rattle.bril_tree.specs.declared.numbered.Instr.{Instr}
 use Rattle.bril_tree.specs.declared.numbered_function.Func.{Func}
 use Rattle.bril_tree.specs.Walk.{IsReached}
-use Rattle.coalesce.specs.meaning.Apart.{Copies}
+use Rattle.variable_renaming.specs.Apart.{Copies}
 use Rattle.coalesce.specs.meaning.Linked.{AreLinked, Same, Copied, Both}
 
 pub linked-turned : (F : Func) (x y : ℕ) → AreLinked F x y → AreLinked F y x

@@ -11,9 +11,10 @@ use Rattle.bril_tree.specs.declared.numbered_function.Func.{Func}
 use Rattle.bril_tree.specs.Numbered.{variable_names}
 use Rattle.bril_tree.specs.Walk.{IsReached}
 use Rattle.bril_names.proofs.Decisions.{contains}
-use Rattle.coalesce.specs.meaning.Apart.{Copies}
+use Rattle.variable_renaming.specs.Apart.{Copies}
+use Rattle.variable_renaming.specs.Renamed.{name_of}
 use Rattle.coalesce.specs.meaning.Linked.{AreLinked, Same, Copied, Both}
-use Rattle.coalesce.specs.meaning.Merged.{AreNewNames, name_of}
+use Rattle.coalesce.specs.meaning.Merged.{AreNewNames}
 use Rattle.coalesce.proofs.lemmas.meaning.Linking.{linked-onwards, linked-turned}
 
 -- ---- variables of a name

@@ -1,8 +1,10 @@
-use Rattle.coalesce.proofs.Made.{can-be_made, next-round}
+use Rattle.variable_renaming.proofs.Made.{can-be_made}
+use Rattle.coalesce.specs.Rounds.{AreRoundClasses}
+use Rattle.coalesce.proofs.Made.{next-round}
 use Rattle.coalesce.proofs.merge.next_round.Goals as goal
 
 pub finish-requires-clause-made : goal.finish-requires-clause-made
-finish-requires-clause-made c = can-be_made c.args.prog.now c.requires.accepted c.in_ok-round.round.tree c.in_ok-round.ensures.tree c.requires.counted
+finish-requires-clause-made c = can-be_made c.args.prog.now AreRoundClasses c.requires.accepted c.in_ok-round.round.tree c.in_ok-round.ensures.tree c.requires.counted
 
 pub returns-clause-next : goal.returns-clause-next
 returns-clause-next c = next-round c.args.prog.now c.requires.accepted c.in_ok-round.round.tree c.in_ok-round.ensures.tree c.in_ok-made.made.prog c.in_ok-made.ensures.numbered c.in_ok-made.ensures.size

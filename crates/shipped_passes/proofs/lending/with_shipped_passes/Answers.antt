@@ -37,7 +37,12 @@ work-requires g c =
                     _,
                     c.into_dyn_box-side.ensures.0,
                     (λ p a x. SameMeaning-refl _),
-                    tt,
+                    (
+                      _,
+                      c.into_dyn_box-color.ensures.0,
+                      (λ p a x. SameMeaning-refl _),
+                      tt,
+                    ),
                   ),
                 ),
               ),

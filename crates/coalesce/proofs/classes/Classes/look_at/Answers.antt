@@ -1,6 +1,6 @@
 -- A copy of one variable to another relates and links both.
 use Rattle.std.proofs.Common.{◌∙◌, sym}
-use Rattle.coalesce.specs.meaning.Apart.{Copies}
+use Rattle.variable_renaming.specs.Apart.{Copies}
 use Rattle.coalesce.proofs.classes.Classes.look_at.Goals as goal
 
 pub look_at_copy-requires : goal.look_at_copy-requires

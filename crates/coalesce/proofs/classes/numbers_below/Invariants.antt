@@ -1,9 +1,0 @@
-use Rattle.std.proofs.Common.{◌≡◌, ℕ, length}
-use Rattle.coalesce.specs.Classes.{class_of}
-use Rattle.coalesce.proofs.classes.numbers_below.Given as goal
-
-abbrev pub invariant-loop-x : goal.invariant-loop-x
-invariant-loop-x l = record {
-  long : length l.numbers.items ≡ l.x;
-  own : (x : ℕ) → class_of l.numbers.items x ≡ x;
-}

@@ -1,5 +1,0 @@
-use Rattle.coalesce.specs.Rounds.{MarksFirst}
-use Rattle.coalesce.proofs.edit.self_copies.Given as goal
-
-abbrev pub invariant-loop-point : goal.invariant-loop-point
-invariant-loop-point l = MarksFirst l.func l.class l.point l.marks.items

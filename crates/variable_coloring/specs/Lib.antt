@@ -1,0 +1,4 @@
+pub mod Color
+pub mod Colors
+pub mod Growing
+pub mod Pairs

@@ -1,0 +1,15 @@
+pub mod Accepted
+pub mod Found
+pub mod Copying
+pub mod Editing
+pub mod Functions
+pub mod Made
+pub mod Names
+pub mod Naming
+pub mod Numbers
+pub mod Points
+pub mod Refines
+pub mod Shadowed
+pub mod Trees
+pub mod Typed
+pub mod Types
