@@ -48,6 +48,17 @@ printf '%s:2:23: error: an operand or the destination has a wrong type\n  \tc: c
     "$scratch/wide.bril" '' 'help: compare the types of its variables with the row of the operation in docs/LANGUAGE.md' >"$scratch/wanted"
 explains "$scratch/wide.bril"
 
+# A variable that no item assigns.
+printf '%s\n' '@main {' '  total: int = const 4;' '  more: int = add total totl;' '}' >"$scratch/misspelled.bril"
+cat >"$scratch/wanted" <<END
+$scratch/misspelled.bril:3:3: error: totl is assigned nowhere in its function
+    more: int = add total totl;
+    ^
+help: assign it before this item, or correct its name
+= 65
+END
+explains "$scratch/misspelled.bril"
+
 # Too many bytes, and too many files.
 head -c 16777217 /dev/zero >"$scratch/large.bril"
 printf '%s: error: the program is too large\nhelp: all files of a program together have at most 16,777,216 bytes\n= 68\n' \

@@ -1,2 +1,7 @@
 mod Counted
 mod Functions
+mod Keeping
+mod Placing
+mod SoFar
+mod Tokens
+mod Within

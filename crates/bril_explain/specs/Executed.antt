@@ -72,14 +72,14 @@ pub record StopsBefore (how : Status) (before : FilesSeen) (root : List ℕ) (wo
   pub accepted : IsProgramOf WithImports before.holds root p
   pub refuses : RefusesRun how p words
 
-abbrev pub IsCounted : {E : Type 0} → (E → SinkSeen) → Status → FilesSeen → List ℕ → List (List ℕ) → SinkSeen → SinkSeen → ErrorOutput E → ErrorOutput E → Type 0
-IsCounted seen how before root words s t old new =
-    CountsProgram seen how before root words s t old new ⊎ ((Refuses how before root ⊎ StopsBefore how before root words) × (new ≡ old))
+abbrev pub IsCounted : {E : Type 0} → (E → SinkSeen) → Status → FilesSeen → FilesSeen → List ℕ → List (List ℕ) → SinkSeen → SinkSeen → ErrorOutput E → ErrorOutput E → Type 0
+IsCounted seen how before after root words s t old new =
+    CountsProgram seen how before root words s t old new ⊎ ((Refuses how before after root ⊎ StopsBefore how before root words) × (new ≡ old))
 
 -- The answer is the number of the status, and its line is told last.
-pub record TellsCount {E : Type 0} (seen : E → SinkSeen) (result : ℕ) (before : FilesSeen) (root : List ℕ) (words : List (List ℕ)) (s t : SinkSeen) (old new : ErrorOutput E) : Type 0 where
+pub record TellsCount {E : Type 0} (seen : E → SinkSeen) (result : ℕ) (before after : FilesSeen) (root : List ℕ) (words : List (List ℕ)) (s t : SinkSeen) (old new : ErrorOutput E) : Type 0 where
   pub how : Status
   pub answer : result ≡ status_number how
   pub between : ErrorOutput E
-  pub counted : IsCounted seen how before root words s t old between
+  pub counted : IsCounted seen how before after root words s t old between
   pub line : Tells seen between (status_pieces how) new

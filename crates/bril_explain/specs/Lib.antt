@@ -2,6 +2,8 @@ pub mod Command
 pub mod Executed
 pub mod Explained
 pub mod Files
+pub mod Held
+pub mod Kept
 pub mod Locate
 pub mod Meaning
 pub mod Message

@@ -46,8 +46,14 @@ keys_message path func item problem help = path ++ codes ": functions[" ++ decim
 abbrev pub file_message : List ℕ → List ℕ → List ℕ → List ℕ
 file_message path problem help = path ++ rest_of problem help
 
+-- a byte of a source is inside, or at its end
+abbrev pub IsInside : Spot → Type 0
+IsInside (Byte source at) = at ≤ length source
+IsInside (Keys func item) = Unit {0}
+IsInside File = Unit {0}
+
 abbrev pub IsSpotMessage : List ℕ → Spot → List ℕ → List ℕ → List ℕ → Type 0
-IsSpotMessage path (Byte source at) problem help message = at ≤ length source → IsByteMessage path source at problem help message
+IsSpotMessage path (Byte source at) problem help message = IsByteMessage path source at problem help message
 IsSpotMessage path (Keys func item) problem help message = message ≡ keys_message path func item problem help
 IsSpotMessage path File problem help message = message ≡ file_message path problem help
 

@@ -1,5 +1,6 @@
 -- What is wrong, and what would mend it, in words.
-use Rattle.std.specs.Prelude.{ℕ, List, [], ◌++◌, codes}
+use Rattle.std.specs.Prelude.{ℕ, List, [], ◌∷◌, ◌++◌, Option, Some, None, codes, if◌then◌else◌, is_some, slice_get}
+use Rattle.std.specs.Option.{option_or}
 use Rattle.bril_checker.specs.declared.fault.CheckFault.{CheckFault}
 use Rattle.bril_checker.specs.declared.fault.CheckFault.TheVariants as check
 use Rattle.bril_json.specs.declared.fault.JsonFault.{JsonFault}
@@ -11,6 +12,10 @@ use Rattle.bril_report.specs.declared.status.Status.{Status}
 use Rattle.bril_report.specs.declared.status.Status.TheVariants as status
 use Rattle.bril_text.specs.declared.fault.TextFault.{TextFault}
 use Rattle.bril_text.specs.declared.fault.TextFault.TheVariants as text
+use Rattle.bril_tree.specs.declared.numbered.Instr.{Instr}
+use Rattle.bril_tree.specs.declared.numbered.Instr.TheVariants as instr
+use Rattle.bril_tree.specs.declared.numbered.VarInfo.{VarInfo}
+use Rattle.bril_tree.specs.declared.numbered_function.Func.{Func}
 use Rattle.bril_tree.specs.declared.program.Prog.{Prog}
 use Rattle.import_linker.specs.declared.formats.fault.ReadFault.TheVariants.{Text, Json}
 
@@ -56,10 +61,40 @@ check_problem check.MainType = codes "main returns a value, or takes a pointer"
 check_problem (check.PrintPtr func item) = codes "a pointer can't be printed"
 check_problem check.Memory = codes "out of memory"
 
+-- the name of a variable that has no type, since nothing assigns it
+abbrev pub untyped : Option VarInfo → Option (List ℕ)
+untyped None = None
+untyped (Some variable) = if is_some variable.ty then None else Some variable.name
+
+-- that of the first of these variables
+abbrev pub untyped_among : List VarInfo → List ℕ → Option (List ℕ)
+untyped_among vars [] = None
+untyped_among vars (arg ∷ args) = option_or (untyped (slice_get vars arg)) (untyped_among vars args)
+
+-- the first that an item reads
+abbrev pub untyped_in : List VarInfo → Option Instr → Option (List ℕ)
+untyped_in vars None = None
+untyped_in vars (Some (instr.Label label)) = None
+untyped_in vars (Some (instr.Const dest ty value)) = None
+untyped_in vars (Some (instr.Act dest ty op args callees targets)) = untyped_among vars args
+
+abbrev pub untyped_of : Option Func → ℕ → Option (List ℕ)
+untyped_of None item = None
+untyped_of (Some f) item = untyped_in f.vars (slice_get f.code item)
+
+-- the variable that an item with a fault of its types reads, and that nothing assigns
+abbrev pub never_assigned : Prog → CheckFault → Option (List ℕ)
+never_assigned p (check.Types func item) = untyped_of (slice_get p.funcs func) item
+never_assigned p _ = None
+
 -- the variable of which a fault of the checker speaks
 abbrev pub subject : Prog → CheckFault → List ℕ
 subject p (check.MaybeUnassigned func item variable) = variable_name p func variable
 subject p _ = []
+
+abbrev pub unaccepted_problem : Option (List ℕ) → Prog → CheckFault → List ℕ
+unaccepted_problem None p fault = subject p fault ++ check_problem fault
+unaccepted_problem (Some name) p fault = name ++ codes " is assigned nowhere in its function"
 
 abbrev pub problem : Status → List ℕ
 problem (status.Misread path (Text fault)) = text_problem fault
@@ -67,7 +102,7 @@ problem (status.Misread path (Json fault)) = json_problem fault
 problem (status.NotThere path name) = codes "no function is named @" ++ name
 problem (status.Clash path name) = codes "two functions are named @" ++ name
 problem (status.Misnamed fault) = name_problem fault
-problem (status.Unaccepted p fault) = subject p fault ++ check_problem fault
+problem (status.Unaccepted p fault) = unaccepted_problem (never_assigned p fault) p fault
 problem (status.CannotRead path) = codes "this file can't be read"
 problem status.TooManyBytes = codes "the program is too large"
 problem status.TooManyFiles = codes "the program has more than 256 files"
@@ -115,13 +150,17 @@ check_help check.MainType = codes "let main return nothing, and take ints, bools
 check_help (check.PrintPtr func item) = codes "load what it points to, and print that"
 check_help check.Memory = codes "end other programs, or take a smaller one"
 
+abbrev pub unaccepted_help : Option (List ℕ) → CheckFault → List ℕ
+unaccepted_help None fault = check_help fault
+unaccepted_help (Some name) fault = codes "assign it before this item, or correct its name"
+
 abbrev pub help : Status → List ℕ
 help (status.Misread path (Text fault)) = text_help fault
 help (status.Misread path (Json fault)) = json_help fault
 help (status.NotThere path name) = codes "define a function of this name in the file, or import it from a file that has it"
 help (status.Clash path name) = codes "give one of the two another name; an import can do so by `as`"
 help (status.Misnamed fault) = name_help fault
-help (status.Unaccepted p fault) = check_help fault
+help (status.Unaccepted p fault) = unaccepted_help (never_assigned p fault) fault
 help (status.CannotRead path) = codes "look whether it is there, is no folder, and may be read"
 help status.TooManyBytes = codes "all files of a program together have at most 16,777,216 bytes"
 help status.TooManyFiles = codes "put functions that belong together into one file, and name each file by one path"

@@ -29,9 +29,9 @@ pub fn answer<F: Files, O: Sink, E: Sink>(
     out: &mut O,
     err: &mut ErrorOutput<'_, E>,
 ) -> u8
-    ensures explains { asks_explain words.now ≡ true → IsExplained E.seen result (F.seen files.old) (word words.now 1) err.old err.new }
+    ensures explains { asks_explain words.now ≡ true → IsExplained E.seen result (F.seen files.old) (F.seen files.new) (word words.now 1) err.old err.new }
     ensures means { asks_explain words.now ≡ false → asks_status words.now ≡ true → TellsMeaning (find (λ row. fits row (word words.now 2)) rows.now) result (O.seen out.old) (O.seen out.new) }
-    ensures counts { asks_explain words.now ≡ false → asks_status words.now ≡ false → asks_count words.now ≡ true → TellsCount E.seen result (F.seen files.old) (word words.now 2) (drop 4 words.now) (O.seen out.old) (O.seen out.new) err.old err.new }
+    ensures counts { asks_explain words.now ≡ false → asks_status words.now ≡ false → asks_count words.now ≡ true → TellsCount E.seen result (F.seen files.old) (F.seen files.new) (word words.now 2) (drop 4 words.now) (O.seen out.old) (O.seen out.new) err.old err.new }
     ensures misuse { asks_explain words.now ≡ false → asks_status words.now ≡ false → asks_count words.now ≡ false → result ≡ 64 }
 {
     if asks_explain(words) {

@@ -47,7 +47,7 @@ pub fn count<F: Files, O: Sink, E: Sink>(
     out: &mut O,
     err: &mut ErrorOutput<'_, E>,
 ) -> u8
-    ensures { TellsCount E.seen result (F.seen files.old) root.now words.now (O.seen out.old) (O.seen out.new) err.old err.new }
+    ensures { TellsCount E.seen result (F.seen files.old) (F.seen files.new) root.now words.now (O.seen out.old) (O.seen out.new) err.old err.new }
 {
     let status = Status::from(counted(alloc, root, words, files, out, err));
     say(err, &status);
@@ -63,7 +63,7 @@ fn counted<F: Files, O: Sink, E: Sink>(
     out: &mut O,
     err: &mut ErrorOutput<'_, E>,
 ) -> Result<(), Status>
-    ensures { IsCounted E.seen (status_of result) (F.seen files.old) root.now words.now (O.seen out.old) (O.seen out.new) err.old err.new }
+    ensures { IsCounted E.seen (status_of result) (F.seen files.old) (F.seen files.new) root.now words.now (O.seen out.old) (O.seen out.new) err.old err.new }
 {
     let checked = accepted(alloc, root, files)?;
     let run = run_of(alloc, &checked, words, out)?;

@@ -1,13 +1,15 @@
 // What would mend a fault.
 
 ghost use Rattle.std.specs.Prelude.{◌≡◌};
-ghost use Rattle.bril_explain.specs.Words.{check_help, help, json_help, name_help, text_help};
+ghost use Rattle.bril_explain.specs.Words.{check_help, help, json_help, name_help, never_assigned, text_help, unaccepted_help};
 
+use crate::assigned::never_assigned;
 use bril_checker::CheckFault;
 use bril_json::JsonFault;
 use bril_names::NameFault;
 use bril_report::Status;
 use bril_text::TextFault;
+use bril_tree::program::Prog;
 use import_linker::formats::ReadFault;
 
 // What would mend the fault that a status tells.
@@ -28,13 +30,22 @@ pub fn help(status: &Status) -> &'static [u8]
         }
         Status::Clash { .. } => b"give one of the two another name; an import can do so by `as`",
         Status::Misnamed { fault } => name_help(*fault),
-        Status::Unaccepted { fault, .. } => check_help(*fault),
+        Status::Unaccepted { program, fault } => unaccepted_help(program, *fault),
         Status::CannotRead { .. } => b"look whether it is there, is no folder, and may be read",
         Status::TooManyBytes => b"all files of a program together have at most 16,777,216 bytes",
         Status::TooManyFiles => {
             b"put functions that belong together into one file, and name each file by one path"
         }
         _ => b"end other programs, or take a smaller one",
+    }
+}
+
+fn unaccepted_help(program: &Prog, fault: CheckFault) -> &'static [u8]
+    ensures { result.now ≡ unaccepted_help (never_assigned program.now fault) fault }
+{
+    match never_assigned(program, fault) {
+        None => check_help(fault),
+        Some(_) => b"assign it before this item, or correct its name",
     }
 }
 

@@ -1,46 +1,53 @@
 // Where the fault of a status stands.
 
-ghost use Rattle.std.specs.Prelude.{◌≡◌, ◌≤◌, ◌<◌, ◌^◌, IfOk, IfSome, length};
+ghost use Rattle.std.specs.Prelude.{◌≡◌, ◌≤◌, ◌<◌, ◌^◌, Some, None, IfErr, IfOk, List, find, length};
 ghost use Rattle.std.specs.List.{All};
+ghost use Rattle.std.specs.Option.{option_copied};
+ghost use Rattle.bril_lex.specs.Cut.{AreTokens};
+ghost use Rattle.bril_lex.specs.declared.token.Token.{Token};
 ghost use Rattle.bril_text.specs.Terminals.{IsTokenIn};
-ghost use Rattle.bril_explain.specs.Locate.{BeginsThere, IsByteOf, IsInProgram, IsLocated, IsNamedIn, NamesAt, StandsInFile, is_name};
+ghost use Rattle.bril_explain.specs.Held.{HoldTarget, HoldsByte, HoldsFunction, HoldsSource};
+ghost use Rattle.bril_explain.specs.Kept.{bytes_at};
+ghost use Rattle.bril_explain.specs.Locate.{BeginsThere, IsByteOf, IsInProgram, IsLocated, IsNamedIn, StandsInFile, is_name, is_named, spot_at};
+ghost use Rattle.bril_explain.specs.Message.{IsInside};
 ghost use Rattle.bril_explain.specs.Target.{fault_name, fault_path, target_of};
+ghost use Rattle.bril_explain.specs.declared.located.Spot.TheVariants as spot;
 
-use crate::files::file_of;
+use crate::kept::{KeptFile, bytes_at, function_in};
 use crate::located::{Located, Spot};
 use crate::target::{Target, fault_name, fault_path, target_of};
-use bril_commands::source::file_bytes;
 use bril_lex::token::Token;
 use bril_lex::{LexFault, tokens};
-use bril_outside::files::Files;
 use bril_report::Status;
+use bril_tree::bytes::Bytes;
 use bril_tree::text::Text;
 use source_places::{function_at, item_at};
-use std::alloc::Global;
+use std::alloc::{AllocError, Global};
 
-// Where the fault of a status stands, in the program whose first file is at the path `root`.
-//
-// `Err`: a file wasn't read a second time, or has changed.
-pub fn locate<F: Files>(
+// Where the fault of a status stands, in the program whose first file is at the path `root`, by its files as they were read.
+pub fn locate(
     alloc: Global,
     root: &str,
     status: &Status,
-    files: &mut F,
-) -> Result<Located, Status>
-    ensures holds { (F.seen files.new).holds ≡ (F.seen files.old).holds }
-    ensures faults { (F.seen files.old).faults ≤ (F.seen files.new).faults }
-    ensures ok { IfOk result (IsLocated (F.seen files.old).holds root.now (fault_path root.now status.now) (fault_name status.now) (target_of status.now)) }
+    kept: &[KeptFile],
+) -> Result<Located, AllocError>
+    requires { HoldTarget kept.now root.now (fault_path root.now status.now) (target_of status.now) }
+    ensures located { IfOk result (IsLocated (bytes_at kept.now) root.now (fault_path root.now status.now) (fault_name status.now) (target_of status.now)) }
+    ensures inside { IfOk result (λ located. IsInside located.spot) }
 {
     let path = fault_path(root, status);
     match target_of(status) {
-        Target::Byte { at } => at_byte(alloc, path, at as usize, files),
+        Target::Byte { at } => at_byte(alloc, path, at as usize, kept),
         Target::Keys { func, item } => Ok(Located {
             path: Text::of(alloc, path)?,
-            spot: Spot::Keys { func, item },
+            spot: Spot::Keys {
+                func: func as usize,
+                item,
+            },
         }),
-        Target::Function { func } => in_program(alloc, root, func, None, files),
-        Target::Item { func, item } => in_program(alloc, root, func, Some(item), files),
-        Target::Named => named_in(alloc, path, fault_name(status), files),
+        Target::Function { func } => in_program(alloc, root, func as usize, None, kept),
+        Target::Item { func, item } => in_program(alloc, root, func as usize, Some(item), kept),
+        Target::Named => named_in(alloc, path, fault_name(status), kept),
         Target::File => Ok(Located {
             path: Text::of(alloc, path)?,
             spot: Spot::File,
@@ -48,16 +55,16 @@ pub fn locate<F: Files>(
     }
 }
 
-// A name of a function in the file at a path, or the file where that has no such token or is in JSON.
-fn named_in<F: Files>(
+// The first token that is `@` and a name in the file at a path, or the file where it has none or is in JSON.
+fn named_in(
     alloc: Global,
     path: &str,
     name: &[u8],
-    files: &mut F,
-) -> Result<Located, Status>
-    ensures holds { (F.seen files.new).holds ≡ (F.seen files.old).holds }
-    ensures faults { (F.seen files.old).faults ≤ (F.seen files.new).faults }
-    ensures ok { IfOk result (IsNamedIn (F.seen files.old).holds path.now name.now) }
+    kept: &[KeptFile],
+) -> Result<Located, AllocError>
+    requires { HoldsSource (bytes_at kept.now) path.now }
+    ensures named { IfOk result (IsNamedIn (bytes_at kept.now) path.now name.now) }
+    ensures inside { IfOk result (λ located. IsInside located.spot) }
 {
     let own = Text::of(alloc, path)?;
     if path.as_bytes().ends_with(b".json") {
@@ -66,40 +73,50 @@ fn named_in<F: Files>(
             spot: Spot::File,
         });
     }
-    let source = file_bytes(alloc, path, files)?;
-    match name_at(alloc, source.as_slice(), name) {
-        Ok(Some(at)) => Ok(Located {
-            path: own,
-            spot: Spot::Byte { source, at },
-        }),
-        Ok(None) => Ok(Located {
-            path: own,
-            spot: Spot::File,
-        }),
-        Err(_) => Err(Status::OutOfMemory),
+    let Some(bytes) = bytes_at(kept, path.as_bytes()) else {
+        unreachable!()
+    };
+    let spot = named_spot(alloc, bytes.as_slice(), name)?;
+    Ok(Located { path: own, spot })
+}
+
+// Where the first token of a source begins that is `@` and the name, or in the file where there is none.
+fn named_spot(alloc: Global, source: &[u8], name: &[u8]) -> Result<Spot, AllocError>
+    requires few { length source.now < 2 ^ 32 }
+    requires cut { (tokens : List Token) × AreTokens source.now tokens }
+    ensures is { (tokens : List Token) → AreTokens source.now tokens → IfOk result (λ spot. spot ≡ spot_at source.now (find (is_named name.now source.now) tokens)) }
+    ensures inside { IfOk result IsInside }
+{
+    match tokens(alloc, source) {
+        Ok(found) => match named_among(source, found.list.as_slice(), name) {
+            Some(token) => spot_in(alloc, source, token.from as usize),
+            None => Ok(Spot::File),
+        },
+        Err(LexFault::Memory) => Err(AllocError),
+        Err(LexFault::At { .. }) => unreachable!(),
     }
 }
 
-// The byte at which the first token of a source begins that is `@` and the name.
-fn name_at(alloc: Global, source: &[u8], name: &[u8]) -> Result<Option<usize>, LexFault>
-    requires { length source.now < 2 ^ 32 }
-    ensures { IfOk result (λ found. IfSome found (NamesAt name.now source.now)) }
-{
-    let found = tokens(alloc, source)?;
-    Ok(name_among(source, found.list.as_slice(), name))
-}
-
-// The same, among these tokens.
-fn name_among(source: &[u8], tokens: &[Token], name: &[u8]) -> Option<usize>
+// The first of the tokens of a source that is `@` and the name.
+fn named_among(source: &[u8], tokens: &[Token], name: &[u8]) -> Option<Token>
     requires { All (IsTokenIn source.now) tokens.now }
-    ensures { IfSome result (NamesAt name.now source.now) }
+    ensures { result ≡ find (is_named name.now source.now) tokens.now }
 {
     for token in tokens {
         if is_name(&source[token.from as usize..token.to as usize], name) {
-            return Some(token.from as usize);
+            return Some(*token);
         }
     }
     None
+}
+
+// A byte of a source.
+fn spot_in(alloc: Global, source: &[u8], at: usize) -> Result<Spot, AllocError>
+    ensures { IfOk result (λ made. made ≡ spot.Byte source.now at) }
+{
+    let mut copy = Bytes::new(alloc);
+    copy.add(source)?;
+    Ok(Spot::Byte { source: copy, at })
 }
 
 // Whether a text is `@` and the name.
@@ -113,72 +130,93 @@ fn is_name(text: &[u8], name: &[u8]) -> bool
 }
 
 // A byte of the file at a path.
-fn at_byte<F: Files>(alloc: Global, path: &str, at: usize, files: &mut F) -> Result<Located, Status>
-    ensures holds { (F.seen files.new).holds ≡ (F.seen files.old).holds }
-    ensures faults { (F.seen files.old).faults ≤ (F.seen files.new).faults }
-    ensures ok { IfOk result (IsByteOf (F.seen files.old).holds path.now at) }
+fn at_byte(alloc: Global, path: &str, at: usize, kept: &[KeptFile]) -> Result<Located, AllocError>
+    requires { HoldsByte (bytes_at kept.now) path.now at }
+    ensures byte { IfOk result (IsByteOf (bytes_at kept.now) path.now at) }
+    ensures inside { IfOk result (λ located. IsInside located.spot) }
 {
-    let source = file_bytes(alloc, path, files)?;
-    if at > source.as_slice().len() {
-        return Err(Status::OutOfMemory);
-    }
+    let Some(bytes) = bytes_at(kept, path.as_bytes()) else {
+        unreachable!()
+    };
     Ok(Located {
         path: Text::of(alloc, path)?,
-        spot: Spot::Byte { source, at },
+        spot: spot_in(alloc, bytes.as_slice(), at)?,
     })
 }
 
 // A function of the linked program, or an item of it.
-fn in_program<F: Files>(
+fn in_program(
     alloc: Global,
     root: &str,
-    func: u32,
+    func: usize,
     item: Option<u32>,
-    files: &mut F,
-) -> Result<Located, Status>
-    ensures holds { (F.seen files.new).holds ≡ (F.seen files.old).holds }
-    ensures faults { (F.seen files.old).faults ≤ (F.seen files.new).faults }
-    ensures ok { IfOk result (IsInProgram (F.seen files.old).holds root.now func item) }
+    kept: &[KeptFile],
+) -> Result<Located, AllocError>
+    requires { HoldsFunction kept.now root.now func }
+    ensures is { IfOk result (IsInProgram (bytes_at kept.now) root.now func item) }
+    ensures inside { IfOk result (λ located. IsInside located.spot) }
 {
-    let found = file_of(alloc, root, func, files)?;
-    let located = in_file(alloc, found.path, found.func, item, files)?;
-    Ok(located)
+    let Some(found) = function_in(kept, func) else {
+        unreachable!()
+    };
+    let path = Text::of(alloc, found.file.path.as_str())?;
+    let spot = in_file(alloc, path.as_bytes(), found.func, item, kept)?;
+    Ok(Located { path, spot })
 }
 
-// A function of the file at a path, or an item of it.
-fn in_file<F: Files>(
+// Where a function of the file at a path begins, or an item of it.
+fn in_file(
     alloc: Global,
-    path: Text,
-    func: u32,
+    path: &[u8],
+    func: usize,
     item: Option<u32>,
-    files: &mut F,
-) -> Result<Located, Status>
-    ensures holds { (F.seen files.new).holds ≡ (F.seen files.old).holds }
-    ensures faults { (F.seen files.old).faults ≤ (F.seen files.new).faults }
-    ensures path { IfOk result (λ located. located.path ≡ path) }
-    ensures spot { IfOk result (λ located. StandsInFile (F.seen files.old).holds path func item located.spot) }
+    kept: &[KeptFile],
+) -> Result<Spot, AllocError>
+    requires { HoldsSource (bytes_at kept.now) path.now }
+    ensures stands { IfOk result (StandsInFile (bytes_at kept.now) path.now func item) }
+    ensures inside { IfOk result IsInside }
 {
-    if path.as_bytes().ends_with(b".json") {
-        return Ok(Located {
-            path,
-            spot: Spot::Keys { func, item },
-        });
+    if path.ends_with(b".json") {
+        return Ok(Spot::Keys { func, item });
     }
-    let source = file_bytes(alloc, path.as_str(), files)?;
-    match byte_of(alloc, source.as_slice(), func as usize, item) {
-        Ok(at) => Ok(Located {
-            path,
-            spot: Spot::Byte { source, at },
-        }),
-        Err(_) => Err(Status::OutOfMemory),
+    let Some(bytes) = bytes_at(kept, path) else {
+        unreachable!()
+    };
+    let source = bytes.as_slice();
+    let at = byte_of(alloc, source, func, item)?;
+    spot_in(alloc, source, at)
+}
+
+// The byte at which a function of a source begins, or an item of it, where the source has tokens.
+fn byte_of(
+    alloc: Global,
+    source: &[u8],
+    func: usize,
+    item: Option<u32>,
+) -> Result<usize, AllocError>
+    requires few { length source.now < 2 ^ 32 }
+    requires cut { (tokens : List Token) × AreTokens source.now tokens }
+    ensures at { IfOk result (BeginsThere source.now func item) }
+    ensures within { IfOk result (λ at. at ≤ length source.now) }
+{
+    match first_byte(alloc, source, func, item) {
+        Ok(at) => Ok(at),
+        Err(LexFault::Memory) => Err(AllocError),
+        Err(LexFault::At { .. }) => unreachable!(),
     }
 }
 
-// The byte at which a function of a source begins, or an item of it.
-fn byte_of(alloc: Global, source: &[u8], func: usize, item: Option<u32>) -> Result<usize, LexFault>
+// The same, or why the source has no tokens.
+fn first_byte(
+    alloc: Global,
+    source: &[u8],
+    func: usize,
+    item: Option<u32>,
+) -> Result<usize, LexFault>
     requires { length source.now < 2 ^ 32 }
     ensures at { IfOk result (BeginsThere source.now func item) }
     ensures within { IfOk result (λ at. at ≤ length source.now) }
+    ensures cut { (tokens : List Token) → AreTokens source.now tokens → IfErr result (λ fault. fault ≡ LexFault.Memory) }
 {
     match item {
         None => function_at(alloc, source, func),

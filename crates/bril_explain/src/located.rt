@@ -9,7 +9,7 @@ pub enum Spot {
     /// At this byte of the source of the file, or at its end.
     Byte { source: Bytes, at: usize },
     /// At a function of the file, which is in JSON, or at an item of it.
-    Keys { func: u32, item: Option<u32> },
+    Keys { func: usize, item: Option<u32> },
     /// In the file.
     File,
 }

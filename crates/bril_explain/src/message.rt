@@ -2,7 +2,7 @@
 
 ghost use Rattle.std.specs.Prelude.{◌≡◌, ◌≤◌, ◌++◌, IfOk, OnOk, length};
 ghost use Rattle.std.specs.List.{flat_map};
-ghost use Rattle.bril_explain.specs.Message.{IsByteMessage, IsMessage, blank, file_message, headed, item_key, keys_message, placed_message, rest_of};
+ghost use Rattle.bril_explain.specs.Message.{IsByteMessage, IsInside, IsMessage, blank, file_message, headed, item_key, keys_message, placed_message, rest_of};
 ghost use Rattle.source_places.specs.Place.{IsPlace};
 
 use crate::located::{Located, Spot};
@@ -18,16 +18,13 @@ pub fn message(
     problem: &[u8],
     help: &[u8],
 ) -> Result<Bytes, AllocError>
+    requires { IsInside located.now.spot }
     ensures { IfOk result (IsMessage located.now problem.now help.now) }
 {
     let path = located.path.as_bytes();
     match &located.spot {
         Spot::Byte { source, at } => {
-            let source = source.as_slice();
-            if *at > source.len() {
-                return file_message(alloc, path, problem, help);
-            }
-            byte_message(alloc, path, source, *at, problem, help)
+            byte_message(alloc, path, source.as_slice(), *at, problem, help)
         }
         Spot::Keys { func, item } => keys_message(alloc, path, *func, *item, problem, help),
         Spot::File => file_message(alloc, path, problem, help),
@@ -121,7 +118,7 @@ fn blank(byte: u8) -> &'static [u8]
 fn keys_message(
     alloc: Global,
     path: &[u8],
-    func: u32,
+    func: usize,
     item: Option<u32>,
     problem: &[u8],
     help: &[u8],

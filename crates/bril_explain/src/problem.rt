@@ -2,8 +2,9 @@
 
 ghost use Rattle.std.specs.Prelude.{◌≡◌, ◌++◌, IfOk};
 ghost use Rattle.bril_report.specs.Lines.{variable_name};
-ghost use Rattle.bril_explain.specs.Words.{check_problem, json_problem, name_problem, problem, subject, text_problem};
+ghost use Rattle.bril_explain.specs.Words.{never_assigned, check_problem, json_problem, name_problem, problem, subject, text_problem, unaccepted_problem};
 
+use crate::assigned::never_assigned;
 use bril_checker::CheckFault;
 use bril_json::JsonFault;
 use bril_names::NameFault;
@@ -34,15 +35,21 @@ pub fn problem(alloc: Global, status: &Status) -> Result<Bytes, AllocError>
             in_two(alloc, b"two functions are named @", name.as_bytes())
         }
         Status::Misnamed { fault } => in_two(alloc, name_problem(*fault), b""),
-        Status::Unaccepted { program, fault } => in_two(
-            alloc,
-            subject(program, *fault),
-            check_problem(*fault),
-        ),
+        Status::Unaccepted { program, fault } => unaccepted_problem(alloc, program, *fault),
         Status::CannotRead { .. } => in_two(alloc, b"this file can't be read", b""),
         Status::TooManyBytes => in_two(alloc, b"the program is too large", b""),
         Status::TooManyFiles => { in_two(alloc, b"the program has more than 256 files", b"") }
         _ => in_two(alloc, b"out of memory", b""),
+    }
+}
+
+// What is wrong where a program has this fault of the checker.
+fn unaccepted_problem(alloc: Global, program: &Prog, fault: CheckFault) -> Result<Bytes, AllocError>
+    ensures { IfOk result (λ words. words ≡ unaccepted_problem (never_assigned program.now fault) program.now fault) }
+{
+    match never_assigned(program, fault) {
+        None => in_two(alloc, subject(program, fault), check_problem(fault)),
+        Some(name) => in_two(alloc, name, b" is assigned nowhere in its function"),
     }
 }
 

@@ -1,7 +1,9 @@
 // Where functions and items begin in a source.
 
-ghost use Rattle.std.specs.Prelude.{◌≡◌, ◌≤◌, ◌<◌, ◌^◌, ◌-◌, length, drop, IfOk};
+ghost use Rattle.std.specs.Prelude.{◌≡◌, ◌≤◌, ◌<◌, ◌^◌, ◌-◌, List, length, drop, IfErr, IfOk};
 ghost use Rattle.std.specs.List.{All};
+ghost use Rattle.bril_lex.specs.Cut.{AreTokens};
+ghost use Rattle.bril_lex.specs.declared.token.Token.{Token};
 ghost use Rattle.bril_text.specs.Reading.{position_of};
 ghost use Rattle.bril_text.specs.Terminals.{IsTokenIn};
 ghost use Rattle.source_places.specs.Standing.{IsFunctionAt, IsItemAt};
@@ -15,11 +17,12 @@ use std::alloc::Global;
 /// The byte at which the function of a number begins: its name, with the `@`. Where the source has no such function, some byte of it or
 /// its end.
 ///
-/// `At`, `Memory`: the source isn't cut into tokens.
+/// `At`: the source isn't cut into tokens. `Memory` may come at any time.
 pub fn function_at(alloc: Global, source: &[u8], func: usize) -> Result<usize, LexFault>
     requires { length source.now < 2 ^ 32 }
     ensures at { IfOk result (IsFunctionAt source.now func) }
     ensures within { IfOk result (λ at. at ≤ length source.now) }
+    ensures cut { (ts : List Token) → AreTokens source.now ts → IfErr result (λ fault. fault ≡ LexFault.Memory) }
 {
     let found = tokens(alloc, source)?;
     let list = found.list.as_slice();
@@ -31,11 +34,12 @@ pub fn function_at(alloc: Global, source: &[u8], func: usize) -> Result<usize, L
 /// The byte at which an item of the function of a number begins: its first token, or the closing brace for the number of all its items.
 /// Where the source has no such item, some byte of it or its end.
 ///
-/// `At`, `Memory`: the source isn't cut into tokens.
+/// `At`: the source isn't cut into tokens. `Memory` may come at any time.
 pub fn item_at(alloc: Global, source: &[u8], func: usize, item: usize) -> Result<usize, LexFault>
     requires { length source.now < 2 ^ 32 }
     ensures at { IfOk result (IsItemAt source.now func item) }
     ensures within { IfOk result (λ at. at ≤ length source.now) }
+    ensures cut { (ts : List Token) → AreTokens source.now ts → IfErr result (λ fault. fault ≡ LexFault.Memory) }
 {
     let found = tokens(alloc, source)?;
     let list = found.list.as_slice();

@@ -6,7 +6,7 @@ use Rattle.bril_explain.proofs.first_fault.accepted.Goals as goal
 pub returns-in_err-tree-clause-err : goal.returns-in_err-tree-clause-err
 returns-in_err-tree-clause-err g c =
     let e = err_from_is_err_and c.from_residual.result c.from_residual.ensures.1 in
-    rw (e.1, e.2) (inl (record { after = g.F.Files.seen c.linked_tree.new.files; refuses = c.in_err-tree.ensures.err }))
+    rw (e.1, e.2) (inl c.in_err-tree.ensures.err)
 
 pub accepted_program-requires : goal.accepted_program-requires
 accepted_program-requires g c = c.in_ok-tree.ensures.ok.links.imports

@@ -1,16 +1,17 @@
--- The program is accepted, or its fault is told.
-use Rattle.std.proofs.Common.{inl, inr, refl, subst, Option}
-use Rattle.bril_outside.specs.Files.{FileMap}
-use Rattle.bril_explain.specs.Explained.{IsTold}
+-- The program is accepted.
+use Rattle.std.proofs.Common.{Option, inl, refl, subst}
+use Rattle.std.specs.Prelude.{MatchOption}
+use Rattle.bril_commands.specs.Source.{WithImports, IsProgramOf}
+use Rattle.bril_tree.specs.declared.program.Prog.{Prog}
+use Rattle.bril_explain.specs.Explained.{Explains}
+use Rattle.bril_explain.specs.declared.explanation.Explanation.{Explanation}
 use Rattle.bril_explain.proofs.first_fault.explain.Goals as goal
 
-pub returns-in-Ok-clause-explained : goal.returns-in-Ok-clause-explained
-returns-in-Ok-clause-explained g c = inl (record { answer = refl; p = c.in-Ok.field-0.prog; accepted = c.in-Ok.ensures.ok; silent = refl })
-
-pub returns-clause-explained : goal.returns-clause-explained
-returns-clause-explained g c = inr (record {
-  how = c.in-Err.status;
-  answer = c.status_number.ensures;
-  refuses = c.in-Err.ensures.err;
-  told = subst (λ (h : Option FileMap). IsTold g.E.Sink.seen h c.args.root.now c.in-Err.status c.args.err.now c.tell.new.err) c.in-Err.ensures.holds c.tell.ensures.told;
-})
+pub returns-in-Ok-None-clause-explained : goal.returns-in-Ok-None-clause-explained
+returns-in-Ok-None-clause-explained g c =
+    let before = g.F.Files.seen c.args.files.now in
+    let after = g.F.Files.seen c.explanation.new.files in
+    let root = c.args.root.now in
+    let found =
+    subst (λ (o : Option Explanation). MatchOption o ((p : Prog) × IsProgramOf WithImports before.holds root p) (Explains before after root)) c.in-Ok-None.field-0-is c.in-Ok-None.ensures.ok in
+    inl (record { answer = refl; p = found.0; accepted = found.1; silent = refl })

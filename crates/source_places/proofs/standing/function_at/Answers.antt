@@ -1,5 +1,6 @@
 -- What the search leaves begins where the grammar has it.
 use Rattle.std.proofs.Common.{◌≡◌, ◌∙◌, ◌-◌, List, [], ap, drop, length, map, subst, sym}
+use Rattle.std.proofs.lemmas.Result.{err_from_is_err_and}
 use Rattle.bril_grammar.specs.Terminal.{Terminal}
 use Rattle.bril_grammar.specs.Written.{Source}
 use Rattle.bril_lex.specs.Cut.{AreTokens}
@@ -27,3 +28,8 @@ returns-clause-at c =
     let left : c.head-left.result.now ≡ search (map (sign_in source) ts) = c.head-left.ensures ∙ ap search signs in
     subst (IsFunctionAt c.args.source.now c.args.func) (sym (c.position_of.ensures.at ∙ ap (λ (s : List Sign). position_of source (drop (length ts - length s) ts)) left))
     (begins source ts search (λ (w : Source) (before : List Terminal). BeforeFunction w c.args.func before) (λ w before h. function_found w c.args.func before h) are)
+
+pub returns-in_err-found-clause-cut : goal.returns-in_err-found-clause-cut
+returns-in_err-found-clause-cut c =
+    let e = err_from_is_err_and c.from_residual.result c.from_residual.ensures.1 in
+    λ ts are. rw (e.1, e.2) (c.in_err-found.ensures.reads ts are)
