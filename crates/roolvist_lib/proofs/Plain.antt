@@ -1,6 +1,6 @@
 -- What the program promises, without what it says of the passes.
-use Rattle.std.proofs.Common.{◌≡◌, ℕ, true, false, List, Option, Some, None, ⊎_elim, inl, inr}
-use Rattle.bril_commands.specs.Answers.{Promises}
+use Rattle.std.proofs.Common.{◌≡◌, ℕ, true, false, List, Option, Some, None, ⊎_elim, inl, inr, subst}
+use Rattle.bril_commands.specs.Answers.{Answers, Promises}
 use Rattle.bril_commands.specs.Budgets.{GoesPastBudget, IsPastBudget}
 use Rattle.bril_commands.specs.Call.{Call}
 use Rattle.bril_commands.specs.Command.{takes_passes}
@@ -20,6 +20,7 @@ use Rattle.pass_law.specs.declared.tally.Tally.{Tally}
 use Rattle.rv64_words.specs.State.{Stop, Finished, Trapped}
 use Rattle.shipped_passes.specs.Shipped.{shipped_rows}
 use Rattle.roolvist_lib.proofs.Runs.{run_plainly}
+use Rattle.roolvist_lib.proofs.Unwritten.{unwritten_plainly}
 use Rattle.roolvist_lib.specs.Plain.{bare, SaysPlainly}
 use Rattle.roolvist_lib.specs.Seen.{IsPromised, Seen, call_with}
 
@@ -92,6 +93,7 @@ module _ {B : Type 0} (meaning : B → Meaning) (counts : B → Tally) (before a
       record {
         run = run_plainly meaning counts before after status s promised.shipped promised.run;
         budget = λ e. past_budget (promised.budget e);
+        unwritten = λ e. unwritten_plainly meaning counts before after s (subst (λ n. Answers n whole) e h.answers);
         does = λ action e r tree have. command_done action e tree r.args (h.does action (reads action r) tree have);
         does_bytes = λ action r. bytes_done action r.path r.args (h.does_bytes action (reads action r));
         silent = h.silent;

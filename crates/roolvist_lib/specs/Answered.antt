@@ -1,21 +1,25 @@
 -- What a call in memory answers.
-use Rattle.std.specs.Prelude.{ℕ, ◌≡◌, ◌⊎◌, List, Option, Some, MatchOption}
+use Rattle.std.specs.Prelude.{ℕ, ◌≡◌, ◌≢◌, ◌<◌, ◌≤◌, ◌⊎◌, List, length, Option, Some, MatchOption}
 use Rattle.bril_outside.specs.Files.{FilesSeen}
-use Rattle.bril_outside.specs.Sink.{SinkSeen}
+use Rattle.bril_outside.specs.Sink.{Rose, SinkSeen}
 use Rattle.roolvist_lib.specs.Buffers.{HoldsFirst}
 use Rattle.roolvist_lib.specs.Given.{Given, files_given}
 use Rattle.roolvist_lib.specs.Seen.{Seen, empty_output}
 
--- The command ended with this status, and this is what its outputs are seen to be, and what is said of the call.
-pub record EndsSo (Says : ℕ → Seen → Type 0) (words : List (List ℕ)) (files : FilesSeen) (status : ℕ) (out err : SinkSeen) : Type 0 where
+-- The command ended with this status; its outputs, of which these things are seen, came to be those; and this is said of the call.
+pub record EndsSo (Says : ℕ → Seen → Type 0) (words : List (List ℕ)) (files : FilesSeen) (status : ℕ) (out out' err err' : SinkSeen) : Type 0 where
   pub files_after : FilesSeen
-  pub says : Says status (record { words = words; files_before = files; files_after = files_after; out_before = empty_output; out_after = out; err_before = empty_output; err_after = err })
+  pub says : Says status (record { words = words; files_before = files; files_after = files_after; out_before = out; out_after = out'; err_before = err; err_after = err' })
+  -- 74 comes where a write to the output failed, and then nothing but 71 in its place
+  pub refused : status ≡ 74 → Rose out.faults out'.faults
+  pub told : out'.faults ≢ out.faults → (status ≡ 74) ⊎ (status ≡ 71)
 
--- The buffer holds the first bytes of what was written to the output.
+-- The buffer holds the first bytes of what was written to the output. Where it has room for all of them, no write failed.
 pub record HoldsOutput (seen : SinkSeen) (before after : List ℕ) (count : ℕ) : Type 0 where
   pub bytes : List ℕ
   pub written : seen.written ≡ Some bytes
   pub holds : HoldsFirst bytes before after count
+  pub whole : length bytes ≤ length before → seen.faults ≡ 0
 
 -- The buffers of a call before and after it, and how many bytes of them were written.
 pub record Buffers : Type 0 where
@@ -30,9 +34,12 @@ pub record Buffers : Type 0 where
 pub record IsDoneSo (Says : ℕ → Seen → Type 0) (words : List (List ℕ)) (files : FilesSeen) (status : ℕ) (b : Buffers) : Type 0 where
   pub out_seen : SinkSeen
   pub err_seen : SinkSeen
-  pub ends : EndsSo Says words files status out_seen err_seen
+  pub ends : EndsSo Says words files status empty_output out_seen empty_output err_seen
   pub holds_out : HoldsOutput out_seen b.out b.out_after b.out_count
   pub holds_err : HoldsOutput err_seen b.err b.err_after b.err_count
+  -- 74 comes only where more was written than the output's buffer has room for, and then nothing but 71 in its place
+  pub full : status ≡ 74 → length b.out < length holds_out.bytes
+  pub cut : length b.out < length holds_out.bytes → (status ≡ 74) ⊎ (status ≡ 71)
 
 -- nothing was written
 pub record IsSilent (b : Buffers) : Type 0 where

@@ -3,3 +3,4 @@ pub mod Buffers
 pub mod Given
 pub mod Plain
 pub mod Seen
+pub mod Unwritten

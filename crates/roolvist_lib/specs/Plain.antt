@@ -4,7 +4,7 @@ use Rattle.bril_commands.specs.Answers.{BytesRefusedWhere, ClashWhere, LackingPr
 use Rattle.bril_commands.specs.Budgets.{IsPastBudget}
 use Rattle.bril_commands.specs.Call.{Call}
 use Rattle.bril_commands.specs.Command.{reach, takes_passes}
-use Rattle.bril_commands.specs.CommandLine.{AskNothing}
+use Rattle.bril_commands.specs.CommandLine.{AskNothing, Asks}
 use Rattle.bril_commands.specs.Comes.{ReadsWell, UnlessMemory}
 use Rattle.bril_commands.specs.RunIsCorrect.{RunIsCorrect}
 use Rattle.bril_commands.specs.Source.{HaveTree}
@@ -16,6 +16,7 @@ use Rattle.pass_law.specs.Meaning.{Meaning}
 use Rattle.pass_law.specs.Tallies.{zero_tally}
 use Rattle.shipped_passes.specs.Shipped.{shipped_rows}
 use Rattle.roolvist_lib.specs.Seen.{Seen, call_with}
+use Rattle.roolvist_lib.specs.Unwritten.{IsUnwritten}
 
 -- a pass that answers to no name
 abbrev pub no_pass : Meaning
@@ -31,6 +32,8 @@ pub record SaysPlainly (status : ℕ) (s : Seen) : Type 0 where
   pub run : RunIsCorrect status (bare s)
   -- by any list, 3 comes only past its budget
   pub budget : status ≡ 3 → IsPastBudget shipped_rows (bare s)
+  -- at 74 the output took the first part of what the command puts: of `run` this is what its source prints
+  pub unwritten : status ≡ 74 → (asks : Asks s.words) × IsUnwritten asks.action (bare s) asks.path asks.args
   -- a command that takes no list is done
   pub does : (action : Action) → takes_passes (command action) ≡ false → (reads : ReadsWell (bare s) action) (tree : Tree) → HaveTree (reach (command action)) s.files_before.holds reads.path tree → CommandDone (command action) status (bare s) tree reads.args
   pub does_bytes : BytesDoneWhere status (bare s)

@@ -1,50 +1,53 @@
 // A call with the shipped passes, as a job.
 
-ghost use Rattle.std.specs.Prelude.{IfOk};
-ghost use Rattle.bril_outside.specs.Memory.{files_seen, sink_seen};
+ghost use Rattle.bril_outside.specs.Memory.{files_seen};
 ghost use Rattle.shipped_passes.specs.Shipped.{AreShipped};
 ghost use Rattle.roolvist_lib.specs.Answered.{EndsSo};
+ghost use Rattle.roolvist_lib.specs.Buffers.{held_seen};
 
+use crate::buffer_sink::{BufferSink, Room};
 use crate::given::Given;
 use crate::reader::Reader;
 use bril_cli::end::end;
 use bril_outside::mem_files::MemFiles;
-use bril_outside::mem_sink::MemSink;
-use bril_tree::sequence::Seq;
 use pass_law::Pass;
 use shipped_passes::Job;
-use std::alloc::{AllocError, Global};
+use std::alloc::Global;
 use std::marker::PhantomData;
 
 /// How the words of a call ended, and its two outputs.
 #[derive(Drop)]
-pub struct Ended {
+pub struct Ended<O: Room, E: Room> {
     pub status: u8,
-    pub out: MemSink,
-    pub err: MemSink,
+    pub out: BufferSink<O>,
+    pub err: BufferSink<E>,
 }
 
-/// A call, as what is done with the shipped passes. It is known to keep what `K` reads of the program's promises.
+/// A call with its two outputs, as what is done with the shipped passes. It is known to keep what `K` reads of the program's promises.
 #[derive(Drop)]
-pub struct Calling<K> {
+pub struct Calling<K, O: Room, E: Room> {
     pub alloc: Global,
     pub given: Given,
-    pub out_room: u32,
-    pub err_room: u32,
+    pub out: BufferSink<O>,
+    pub err: BufferSink<E>,
     pub reader: PhantomData<K>,
 }
 
-impl<K: Reader> Job for Calling<K> {
-    type Answer = Result<Ended, AllocError>;
+impl<K: Reader, O: Room, E: Room> Job for Calling<K, O, E> {
+    type Answer = Ended<O, E>;
 
-    ghost done = { λ call answer. IfOk answer (λ ended. EndsSo K.reading.Says call.given.words (files_seen call.given.files) ended.status (sink_seen ended.out) (sink_seen ended.err)) };
+    ghost done = { λ call answer. EndsSo K.reading.Says call.given.words (files_seen call.given.files) answer.status (held_seen call.out) (held_seen answer.out) (held_seen call.err) (held_seen answer.err) };
 
-    fn work(self, passes: &mut [Box<dyn Pass>]) -> Result<Ended, AllocError> {
+    fn work(self, passes: &mut [Box<dyn Pass>]) -> Ended<O, E> {
         let alloc = self.alloc;
-        let mut out = MemSink::new(alloc, self.out_room, Seq::new(alloc))?;
-        let mut err = MemSink::new(alloc, self.err_room, Seq::new(alloc))?;
-        let Given { words, mut files } = self.given;
-        let status = end::<MemFiles, MemSink, MemSink>(
+        let Calling {
+            given,
+            mut out,
+            mut err,
+            ..
+        } = self;
+        let Given { words, mut files } = given;
+        let status = end::<MemFiles, BufferSink<O>, BufferSink<E>>(
             alloc,
             Ok(words),
             &mut files,
@@ -52,6 +55,6 @@ impl<K: Reader> Job for Calling<K> {
             &mut err,
             passes,
         );
-        Ok(Ended { status, out, err })
+        Ended { status, out, err }
     }
 }

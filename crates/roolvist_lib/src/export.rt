@@ -18,7 +18,8 @@ use std::marker::Brand;
 ///
 /// Else the status is what the program promises of these words and files (`IsPromised` in `specs/Seen.antt`), and `out` and `err` hold the
 /// first of what was written to the outputs; `written` says how many bytes. The clause says this of all promises in which the passes don't
-/// occur; `call_as` has those in which they do.
+/// occur; `call_as` has those in which they do. 74 comes exactly where more was written than `out` has room for (`full`, `cut` of
+/// `IsDoneSo`), but for 71 in its place; an `err` that has no room for all changes nothing else.
 #[unsafe(no_mangle)]
 pub extern "C" fn roolvist_call(
     alloc: Global,

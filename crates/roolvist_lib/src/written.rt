@@ -1,6 +1,6 @@
 // What is written to the buffers of a call.
 
-ghost use Rattle.std.specs.Prelude.{◌≡◌, ◌≤◌, length};
+ghost use Rattle.std.specs.Prelude.{◌≡◌, length};
 ghost use Rattle.roolvist_lib.specs.Buffers.{HoldsFirst};
 
 /// How many bytes were put into each of the two outputs.
@@ -18,9 +18,4 @@ pub fn copied(bytes: &[u8], buffer: &mut [u8]) -> usize
     let count = bytes.len().min(buffer.len());
     buffer[..count].copy_from_slice(&bytes[..count]);
     count
-}
-
-/// The room of a sink for the buffer.
-pub fn room_of(buffer: &[u8]) -> u32 {
-    buffer.len().min(u32::MAX as usize) as u32
 }
