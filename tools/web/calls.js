@@ -1,29 +1,61 @@
-// Calls of the server, one at a time for each view: a new one, or `stop`, ends the one before.
-let last = 0;
-const running = new Set();
+// Calls of the server.
+let last = 0, running = 0;
 
-// What the program leaves: its status, or none and how it ended otherwise; its output, error output and time.
-export async function call(command, fields) {
-  const id = `c${++last}`;
-  running.add(id);
-  try {
-    const answer = await fetch('call', { method: 'POST', body: JSON.stringify({ id, command, ...fields }) });
-    if (!answer.ok) return { status: null, end: await answer.text(), out: '', err: '', ms: 0 };
-    return await answer.json();
-  } catch {
-    return { status: null, end: 'the server of this page has ended', out: '', err: '', ms: 0 };
-  } finally {
-    running.delete(id);
+export const isCalling = () => running > 0;
+export const fileOf = async name => (await fetch(name)).json();
+
+const failed = end => ({ status: null, end, out: '', err: '', ms: 0 });
+const post = (name, fields) => fetch(name, { method: 'POST', body: JSON.stringify(fields) });
+
+const pause = time => new Promise(done => setTimeout(done, time));
+
+// The calls for one purpose.
+export function newWork() {
+  const names = new Set();
+  let isStopped = false, hasEnded = false;
+
+  // What the program leaves: its status, or none and how it ended otherwise; its output, error output and time.
+  async function call(command, fields) {
+    if (isStopped) return failed('stopped');
+    const id = `c${++last}`;
+    names.add(id);
+    running++;
+    try {
+      let answer = await post('call', { id, command, ...fields });
+      // What was just stopped may still count as running.
+      for (let tries = 0; answer.status === 503 && tries < 20 && !isStopped; tries++) {
+        await pause(100);
+        answer = await post('call', { id, command, ...fields });
+      }
+      return answer.ok ? await answer.json() : failed(await answer.text());
+    } catch {
+      return failed('the server of this page has ended');
+    } finally {
+      names.delete(id);
+      running--;
+    }
   }
+
+  // Ends the calls that run; none begins before all that waits for them has seen it. A call may be on its way to the server when it
+  // is stopped, so the server is told until it has ended.
+  async function stop() {
+    isStopped = true;
+    while (names.size) {
+      await Promise.allSettled([...names].map(id => post('stop', { id })));
+      await pause(50);
+    }
+    await pause(50);
+    isStopped = hasEnded;
+  }
+
+  // The same for good.
+  function end() {
+    hasEnded = true;
+    return stop();
+  }
+
+  return { call, stop, end };
 }
-
-export const isCalling = () => running.size > 0;
-
-export function stop() {
-  return Promise.all([...running].map(id => fetch('stop', { method: 'POST', body: JSON.stringify({ id }) })));
-}
-
-export const examples = async () => (await fetch('examples.json')).json();
 
 // How a call ended, in a few words.
 export function endOf(left) {

@@ -1,92 +1,225 @@
 // The page: the program with its arguments and passes on the left, and one view of it on the right.
-import { call, examples, stop } from './calls.js';
-import { placeOfMessage } from './programs.js';
+import { fileOf, newWork } from './calls.js';
+import { openEditor } from './editor.js';
+import { button, counted, make } from './elements.js';
+import { listing } from './listing.js';
 import { monitor } from './monitor.js';
-import { graph, listing, make, passes, profile, record, run } from './views.js';
+import { profile, record } from './profile.js';
+import { placeOfMessage } from './programs.js';
+import { graph, passes, run } from './views.js';
 
 const by = id => document.getElementById(id);
-const PASSES = ['trace', 'side', 'ssa', 'const', 'dead', 'unssa', 'merge', 'tidy'];
-const VIEWS = { Run: run, Passes: passes, Graph: graph, Profile: profile, Listing: listing, Monitor: monitor };
-export const state = { program: '', args: [], list: '', head: 'bril-profile 2', entries: [], recorded: false, hot: 4, view: 'Run' };
+const VIEWS = { Run: run, Passes: passes, Graph: graph, Profile: profile, Words: listing, Monitor: monitor };
+const LIMITS = ['steps', 'frames', 'cells'];
+const PASSES = {
+  trace: 'lays recorded paths between speculate and commit, with guards in place of branches',
+  side: 'gives guards of traces exits of their own, which need not test again what the guard tested',
+  ssa: 'brings the program into SSA form: each variable is assigned by one item',
+  const: 'writes out what is the same in all runs: values, branches and guards',
+  dead: 'puts nop in place of what nobody reads and nothing reaches',
+  unssa: 'makes a variable of each shadow, and copies of get and set',
+  merge: 'gives one name to variables that copies relate',
+  tidy: 'drops every nop, and every item that nothing reaches',
+  color: 'gives one name to variables that are never needed at once',
+};
+export const state = { program: '', args: [], list: '', limits: {}, head: 'bril-profile 2', entries: [], recorded: false, hot: 4, view: 'Run' };
+export let editor = null;
 
 // The words of a line of arguments, parted by blanks; quotes hold a blank.
 const wordsOf = line => [...line.matchAll(/'([^']*)'|"([^"]*)"|(\S+)/g)].map(found => found[1] ?? found[2] ?? found[3]);
 
 function read() {
-  const program = by('source').value, args = wordsOf(by('args').value);
-  if (program !== state.program || args.join('\0') !== state.args.join('\0')) Object.assign(state, { entries: [], recorded: false });
-  Object.assign(state, { program, args, list: by('list').value.replace(/\s/g, '') });
+  const program = editor.text, args = wordsOf(by('args').value);
+  const limits = Object.fromEntries(LIMITS.map(name => [name, by(name).value.trim()]).filter(([, value]) => value));
+  if (JSON.stringify([program, args, limits]) !== JSON.stringify([state.program, state.args, state.limits])) Object.assign(state, { entries: [], recorded: false });
+  Object.assign(state, { program, args, limits, list: by('list').value.replace(/\s/g, '') });
 }
 
+let work = newWork();
+
+// Fills the view of this name; what the last one still calls is ended.
 export async function show(name = state.view) {
   read();
+  const isSame = name === state.view;
   state.view = name;
-  for (const tab of by('tabs').querySelectorAll('[role=tab]')) { tab.ariaSelected = String(tab.textContent === name); tab.tabIndex = tab.textContent === name ? 0 : -1; }
-  await stop();
-  const view = by('view');
+  for (const tab of by('tabs').children) {
+    tab.setAttribute('aria-selected', String(tab.textContent === name));
+    tab.tabIndex = tab.textContent === name ? 0 : -1;
+  }
+  work.end();
+  const mine = work = newWork(), panel = make('div', { className: 'panel' }), view = by('view'), from = isSame ? view.scrollTop : 0;
+  const turn = () => {
+    if (mine !== work || panel.isConnected) return;
+    const hadFocus = view.contains(document.activeElement);
+    view.replaceChildren(panel);
+    if (hadFocus) view.focus();
+  };
+  const waits = setTimeout(turn, 200);
   view.setAttribute('aria-busy', 'true');
-  if (state.list.includes('trace') && !state.recorded) await record(state);
-  await VIEWS[name](state, view);
+  view.setAttribute('aria-labelledby', `tab-${name}`);
+  try {
+    if (state.list.split(',').includes('trace') && !state.recorded) await record(state, mine.call);
+    await VIEWS[name](state, panel, mine.call);
+  } catch (error) {
+    panel.append(make('p', { className: 'wrong', text: `This can't be shown: ${error.message}` }));
+    console.error(error);
+  }
+  clearTimeout(waits);
+  turn();
+  if (mine !== work) return;
+  view.scrollTop = from;
   view.removeAttribute('aria-busy');
 }
 
-// Marks the line of the first fault, and says what it is; roolvist-explain says more, where it is.
-export async function check() {
-  read();
-  const left = await call('check', { program: state.program });
-  const said = (left.end || left.err || left.out).trim(), at = left.status === 65 ? placeOfMessage(state.program, said) : -1;
-  const wrong = at < 0 ? -1 : state.program.slice(0, at).split('\n').length;
-  by('checked').className = left.status === 0 ? '' : 'wrong';
-  by('checked').textContent = left.status === 0 ? said.replace(/^ok (\d+) (\d+)$/, 'accepted: functions $1, items $2') : wrong < 0 ? said : `line ${wrong}: ${said.replace('page.bril: ', '')}`;
-  by('gutter').replaceChildren(...state.program.split('\n').map((_, line) => make('span', { className: line + 1 === wrong ? 'wrong' : '', text: `${line + 1}\n` })));
-  const explained = left.status === 65 ? await call('explain', { program: state.program }) : null;
-  by('explained').textContent = explained?.status === 65 ? explained.err : '';
-  return left.status;
+const stop = () => work.stop();
+let checking = newWork();
+
+// Where a refused program is wrong, and how: by roolvist-explain, where that is here, else by the message of `check`.
+async function faultOf(left, call) {
+  const said = (left.end || left.err || left.out).trim().replace(/^page\.bril: /, '');
+  if (left.status !== 65) return { said };
+  const explained = await call('explain', { program: state.program }), lines = explained.status === 65 ? explained.err.trim().split('\n') : [];
+  const [, line, column, why] = /^page\.bril:(?:(\d+):(\d+):)? error: (.*)$/.exec(lines[0] ?? '') ?? [], help = lines.find(text => text.startsWith('help: ')) ?? '';
+  if (line) return { place: { line: line - 1, column: column - 1 }, said, why, help };
+  const at = placeOfMessage(state.program, left.err), before = state.program.slice(0, Math.max(at, 0)).split('\n');
+  return { place: at < 0 ? null : { line: before.length - 1, column: before.at(-1).length }, said, why, help };
 }
 
-// What a link holds: the program, its arguments, its passes, and which view is open.
-const toLink = () => '#' + btoa(String.fromCharCode(...new TextEncoder().encode(JSON.stringify([state.program, by('args').value, state.list, state.view])))).replace(/\+/g, '-').replace(/\//g, '_');
+// Checks the program, marks the line of its fault, and says what it is.
+export async function check() {
+  read();
+  checking.end();
+  const { call } = checking = newWork(), mine = checking, left = await call('check', { program: state.program });
+  const fault = left.status === 0 ? null : await faultOf(left, call);
+  if (mine !== checking) return null;
+  editor.mark(fault?.place ?? null);
+  const [, functions, items] = /^ok (\d+) (\d+)$/m.exec(left.out) ?? [];
+  const where = fault?.place ? `line ${fault.place.line + 1}: ` : '', accepted = `accepted: ${counted(+functions, 'function')}, ${counted(+items, 'item')}`;
+  const text = fault ? where + (fault.why ?? fault.said) : accepted;
+  by('checked').className = fault ? 'wrong' : '';
+  by('checked').replaceChildren(text, ...(fault?.place ? [' ', button('Go there', () => editor.go(fault.place), { id: 'go-there' })] : []));
+  by('explained').textContent = fault?.why ? `${fault.help.replace('help: ', 'To mend it: ')}. check says: ${fault.said}` : '';
+  const main = /@main\s*\(([^)]*)\)/.exec(state.program);
+  by('wanted').textContent = main ? `main takes ${main[1].trim()}` : 'main takes none';
+  return left.status ?? -1;
+}
+
+// What a link holds: the program, its arguments, its passes, which view is open, and the limits.
+function toLink() {
+  const bytes = new TextEncoder().encode(JSON.stringify([state.program, by('args').value, state.list, state.view, state.limits]));
+  return '#' + btoa(Array.from(bytes, byte => String.fromCharCode(byte)).join('')).replace(/[+/]/g, char => char === '+' ? '-' : '_');
+}
 
 function fromLink() {
   try {
-    const bytes = Uint8Array.from(atob(location.hash.slice(1).replace(/-/g, '+').replace(/_/g, '/')), char => char.charCodeAt(0));
-    [by('source').value, by('args').value, by('list').value, state.view] = JSON.parse(new TextDecoder().decode(bytes));
+    const text = atob(location.hash.slice(1).replace(/[-_]/g, char => char === '-' ? '+' : '/')), bytes = Uint8Array.from(text, char => char.charCodeAt(0));
+    const [program, args, list, view, limits = {}] = JSON.parse(new TextDecoder().decode(bytes));
+    if (![program, args, list].every(text => typeof text === 'string')) return false;
+    put(program, args, limits);
+    by('example').value = '';
+    by('list').value = list;
+    state.view = VIEWS[view] ? view : 'Run';
     return true;
   } catch {
     return false;
   }
 }
 
-export async function choose(program, args) {
-  by('source').value = program;
+async function link() {
+  read();
+  history.replaceState(null, '', toLink());
+  const copied = await navigator.clipboard?.writeText(location.href).then(() => true, () => false);
+  by('linked').textContent = copied ? 'The address holds it, and is copied.' : 'The address holds it.';
+}
+
+function put(program, args, limits) {
+  editor.text = program;
   by('args').value = args;
-  if (await check() === 0) await show();
+  for (const name of LIMITS) by(name).value = limits[name] ?? '';
+  by('limits').open = Object.keys(limits).length > 0;
+}
+
+// Checks the program, and fills the view again; where it is refused, nothing is shown of the one before.
+async function refresh() {
+  const status = await check();
+  if (status === 0) return show();
+  if (status !== null) {
+    work.end();
+    by('view').removeAttribute('aria-busy');
+    by('view').replaceChildren(make('p', { className: 'wrong', text: 'The program is refused, so there is nothing to show of it.' }));
+  }
+}
+
+export function choose(program, args, limits = {}) {
+  put(program, args, limits);
+  return refresh();
+}
+
+function changeList(names) {
+  by('list').value = names.join(',');
+  return refresh();
+}
+
+function addButtons() {
+  const listed = () => by('list').value.split(',').filter(Boolean);
+  const explained = name => ({ title: PASSES[name], attributes: { 'aria-description': PASSES[name] } });
+  for (const name of Object.keys(VIEWS)) by('tabs').append(button(name, () => show(name), { id: `tab-${name}`, attributes: { role: 'tab', 'aria-controls': 'view' } }));
+  for (const name of Object.keys(PASSES)) by('pass-buttons').append(button(`+ ${name}`, () => changeList([...listed(), name]), explained(name)));
+  by('pass-buttons').append(button('take the last away', () => changeList(listed().slice(0, -1))), button('all', () => changeList(Object.keys(PASSES))),
+    button('none', () => changeList([])));
+  by('passes-told').append(...Object.entries(PASSES).flatMap(([name, does]) => [make('dt', { text: name }), make('dd', { text: does })]));
+}
+
+// The menu of examples, in groups by their folders.
+function addExamples(found) {
+  const groups = new Map();
+  for (const [place, { name }] of found.entries()) {
+    const [folder, file] = name.includes('/') ? name.split('/') : ['examples', name];
+    if (!groups.has(folder)) groups.set(folder, make('optgroup', { label: folder }));
+    groups.get(folder).append(new Option(file, place));
+  }
+  by('example').append(new Option('(your own)', ''), ...groups.values());
+  by('example').addEventListener('change', () => {
+    const { text, args, limits } = found[by('example').value] ?? { text: '@main {\n}\n', args: '', limits: {} };
+    choose(text, args, limits);
+  });
+}
+
+function addKeys() {
+  by('tabs').addEventListener('keydown', event => {
+    const names = Object.keys(VIEWS), at = names.indexOf(state.view), to = { ArrowRight: at + 1, ArrowLeft: at - 1, Home: 0, End: -1 }[event.key];
+    if (to === undefined) return;
+    event.preventDefault();
+    const name = names.at(to % names.length);
+    show(name);
+    by(`tab-${name}`).focus();
+  });
+  document.addEventListener('keydown', event => {
+    if (event.ctrlKey && event.key === 'Enter') { event.preventDefault(); refresh(); }
+    if (event.ctrlKey && event.key === '.') { event.preventDefault(); stop(); }
+  });
 }
 
 async function begin() {
-  for (const name of Object.keys(VIEWS)) by('tabs').append(make('button', { text: name, role: 'tab', on: { click: () => show(name) } }));
-  by('tabs').append(make('button', { text: 'Stop', id: 'stop', on: { click: stop } }));
-  for (const name of PASSES) by('pass-buttons').append(make('button', { text: `+ ${name}`, on: { click: () => { by('list').value += (by('list').value ? ',' : '') + name; show(); } } }));
-  by('pass-buttons').append(make('button', { text: 'all', on: { click: () => { by('list').value = PASSES.join(','); show(); } } }), make('button', { text: 'none', on: { click: () => { by('list').value = ''; show(); } } }));
-  const found = await examples();
-  by('example').append(new Option('(your own)', ''), ...found.map((example, place) => new Option(example.name, place)));
-  by('example').addEventListener('change', () => { const { text, args } = found[by('example').value] ?? { text: '@main {\n}\n', args: '' }; choose(text, args); });
+  const [found, installed] = await Promise.all([fileOf('examples.json'), fileOf('library.json')]);
   let waits;
-  by('source').addEventListener('input', () => { by('example').value = ''; clearTimeout(waits); waits = setTimeout(check, 300); });
-  by('source').addEventListener('scroll', () => { by('gutter').scrollTop = by('source').scrollTop; });
-  for (const id of ['args', 'list']) by(id).addEventListener('change', () => show());
-  by('link').addEventListener('click', () => { read(); location.hash = toLink(); });
-  by('tabs').addEventListener('keydown', event => {
-    const names = Object.keys(VIEWS), step = { ArrowRight: 1, ArrowLeft: -1 }[event.key];
-    if (step) { const name = names[(names.indexOf(state.view) + step + names.length) % names.length]; show(name); [...by('tabs').children].find(tab => tab.textContent === name).focus(); }
-  });
-  document.addEventListener('keydown', event => { if (event.ctrlKey && event.key === 'Enter') { event.preventDefault(); check().then(status => status === 0 && show()); } });
-  const first = found.find(example => example.name === 'factorial');
-  if (location.hash.length > 10 && fromLink()) { if (await check() === 0) await show(); } else {
-    by('example').value = found.indexOf(first);
-    await choose(first.text, first.args);
+  const changed = () => { by('example').value = ''; clearTimeout(waits); waits = setTimeout(refresh, 400); };
+  editor = await openEditor(by('editor'), installed, changed);
+  addButtons();
+  addExamples(found);
+  addKeys();
+  for (const id of ['args', 'list', ...LIMITS]) by(id).addEventListener('change', refresh);
+  by('stop').addEventListener('click', stop);
+  by('link').addEventListener('click', link);
+  by('theme').addEventListener('change', () => { document.documentElement.dataset.theme = by('theme').value; });
+  addEventListener('hashchange', () => { if (fromLink()) refresh(); });
+  new MutationObserver(() => { by('stop').disabled = !by('view').hasAttribute('aria-busy'); }).observe(by('view'), { attributes: true });
+  if (location.hash.length > 10 && fromLink()) await refresh(); else {
+    const first = found.findIndex(example => example.name === 'factorial');
+    by('example').value = first;
+    await choose(found[first].text, found[first].args);
   }
-  if (location.hash === '#test') import('./test.js');
+  if (location.hash.startsWith('#test')) import('./test.js');
 }
 
 begin();

@@ -1,105 +1,140 @@
-// The views of a program. Each is a function that is given the page's state and an element that it fills.
-import { call, countsOf, endOf } from './calls.js';
+// The views of a program: its run, the program after each pass, its flow graphs. Each is a function that is given the page's state,
+// an element that it fills, and how to call the program.
+import { countsOf, endOf } from './calls.js';
+import { button, counted, headOf, make, output } from './elements.js';
+import { addFailures, drawGraph, readGraph } from './flow_graph.js';
 import { changes, linesOf } from './programs.js';
 
-// An element with its classes, its text or children, and what happens where it is used.
-export function make(kind, { className = '', text, on, ...rest } = {}, ...children) {
-  const made = Object.assign(document.createElement(kind), { className, ...rest });
-  if (text !== undefined) made.textContent = text;
-  made.append(...children);
-  for (const [event, does] of Object.entries(on ?? {})) made.addEventListener(event, does);
-  return made;
-}
-
-const button = (text, does, rest) => make('button', { text, on: { click: does }, ...rest });
-const message = left => make('p', { className: left.status === 0 ? '' : 'wrong', text: `${endOf(left)} (${left.ms} ms)` });
-const output = (text, left) => make('pre', { text: text + (left?.end === 'cut' ? '\n... cut here' : '') });
-
 // The options of the passes that are put together, with the profile's entries that are switched on.
-function passOptions(state) {
+export function passOptions(state) {
   const entries = state.entries.filter(entry => entry.on).map(entry => entry.line + '\n').join('');
   return { passes: state.list, ...(state.entries.length ? { profile: state.head + '\n' + entries } : {}) };
 }
 
-export async function run(state, view) {
-  const fields = { program: state.program, args: state.args };
-  const plain = await call('run', { ...fields, options: { stats: '' } });
-  const made = state.list ? await call('run', { ...fields, options: { ...passOptions(state), stats: '' } }) : plain;
-  const rows = [['without passes', plain], ...(state.list ? [['with the passes', made]] : [])].map(([name, left]) => make('tr', {},
-    make('td', { text: name }), make('td', { text: endOf(left) }), make('td', { className: 'number', text: countsOf(left).words ?? '-' }), make('td', { text: `${left.ms} ms` })));
-  const guards = countsOf(made).guards.map(guard => make('li', { text: `@${guard.name}, item ${guard.item}: failed ${guard.fails} times` }));
-  view.replaceChildren(make('table', {}, make('tr', {}, ...['', 'end', 'words', 'time'].map(text => make('th', { text }))), ...rows),
-    ...(guards.length ? [make('h2', { text: 'Guards after the passes' }), make('ul', {}, ...guards)] : []), make('h2', { text: 'Output' }), output(made.out, made));
-  if (plain.out !== made.out) view.prepend(make('p', { className: 'wrong', text: 'The two print something else, or one was stopped.' }));
-  return made;
+export function runOf(state, call, options) {
+  return call('run', { program: state.program, args: state.args, options: { ...state.limits, ...options, stats: '' } });
 }
 
-export async function passes(state, view) {
+// How a call ended where it didn't end well, and what that means.
+export async function message(left, call) {
+  const line = endOf(left), said = make('p', { className: 'wrong', text: line });
+  if (left.status) {
+    const meaning = await call('meaning', { line });
+    if (meaning.status === 0) said.append(make('span', { className: 'meaning', text: ` ${meaning.out.trim()}` }));
+  }
+  return said;
+}
+
+// The items of a program's text, by function and number.
+const itemsOf = text => new Map(linesOf(text).filter(({ item }) => item !== null).map(({ line, name, item }) => [`${name} ${item}`, line.trim()]));
+
+function guardTable(guards, items) {
+  const rows = guards.map(({ name, item, fails }) => make('tr', { className: fails ? 'failed' : '' },
+    make('td', { className: 'mono', text: `@${name} ${item}` }), make('td', { className: 'mono', text: items.get(`${name} ${item}`) ?? '' }),
+    make('td', { className: 'number', text: fails })));
+  return make('table', { id: 'guards' }, headOf('item', 'guard', 'failed'), ...rows);
+}
+
+function runTable(runs) {
+  const rows = runs.map(([name, left]) => make('tr', {}, make('td', { text: name }), make('td', { className: left.status === 0 ? '' : 'wrong', text: endOf(left) }),
+    make('td', { className: 'number', text: countsOf(left).words ?? '-' }), make('td', { className: 'number', text: `${left.ms} ms` })));
+  return make('table', { id: 'runs' }, headOf('', 'end', 'machine words', 'time'), ...rows);
+}
+
+const HINT = 'To see a trace, put trace into the list on the left: then Graph shows it, and this view how often its guards fail.';
+
+function compared(before, after) {
+  if (after === before) return 'Both execute as many words.';
+  return `With the passes it executes ${counted(Math.abs(after - before), 'word')} ${after < before ? 'less' : 'more'}.`;
+}
+
+export async function run(state, panel, call) {
+  const plain = await runOf(state, call, {}), made = state.list ? await runOf(state, call, passOptions(state)) : plain;
+  const { words, guards } = countsOf(made), before = countsOf(plain).words;
+  const children = [runTable([['without passes', plain], ...(state.list ? [['with the passes', made]] : [])])];
+  if (made.status !== 0) children.push(await message(made, call));
+  if (state.list && words !== null && before !== null) children.push(make('p', { text: compared(before, words) }));
+  if (!plain.end && !made.end && plain.out !== made.out) children.push(make('p', { className: 'wrong', text: 'The two print something else.' }));
+  if (guards.length) {
+    const after = await call('passes', { program: state.program, options: passOptions(state) });
+    children.push(make('h2', { text: state.list ? 'Guards, in the program after the passes' : 'Guards' }), guardTable(guards, itemsOf(after.out)));
+  }
+  if (!state.list) children.push(make('p', { className: 'hint', text: HINT }));
+  const printed = made.out ? output(made.out, made.end === 'cut', 'printed') : make('p', { text: 'Nothing was printed.' });
+  panel.replaceChildren(...children, make('h2', { text: 'Output' }), printed);
+}
+
+// The lines of a text and what became of them; longer stretches that stayed are folded, and what is too long is cut with a word.
+const MOST_LINES = 4000;
+
+function marked(all) {
+  const changed = all.slice(0, MOST_LINES), stays = changed.map(([mark]) => mark === ' '), rows = [];
+  const row = ([mark, line]) => make('div', { className: { '+': 'new', '-': 'gone' }[mark] ?? '', text: `${mark} ${line}` });
+  const folded = part => make('details', { className: 'stays' }, make('summary', { text: `... ${counted(part.length, 'line')} as before` }), ...part.map(row));
+  for (let place = 0; place < changed.length;) {
+    let end = place;
+    while (stays[end]) end++;
+    const from = place ? place + 3 : place, to = end < changed.length ? end - 3 : end;
+    if (to - from > 4 && stays.includes(false)) {
+      rows.push(...changed.slice(place, from).map(row), folded(changed.slice(from, to)));
+      place = to;
+    }
+    end = Math.max(end, place + 1);
+    rows.push(...changed.slice(place, end).map(row));
+    place = end;
+  }
+  const rest = all.length - changed.length;
+  return make('div', { className: 'code' }, ...rows, ...(rest ? [make('span', { className: 'cut', text: `... cut here, ${rest} more lines` })] : []));
+}
+
+export async function passes(state, panel, call) {
   const names = state.list ? state.list.split(',') : [], options = passOptions(state);
-  view.replaceChildren();
+  if (!names.length) panel.append(make('p', { text: 'Put passes into the list on the left, to see what each makes of the program.' }));
   let before = null;
   for (let count = 0; count <= names.length; count++) {
-    const left = await call('passes', { program: state.program, options: { ...options, passes: names.slice(0, count).join(',') } });
-    if (left.status !== 0) return view.append(message(left));
-    const counted = await call('run', { program: state.program, args: state.args, options: { ...options, passes: names.slice(0, count).join(','), stats: '' } });
-    const lines = left.out.replace(/\n$/, '').split('\n'), marked = before ? changes(before, lines) : lines.map(line => [' ', line]);
-    const words = countsOf(counted).words, title = count ? `after ${names[count - 1]}` : 'the program';
-    view.append(make('details', { open: true }, make('summary', { text: `${title}: ${linesOf(left.out).filter(line => line.item !== null).length} items, ${words ?? endOf(counted)} words` }),
-      make('pre', {}, ...marked.map(([mark, line]) => make('span', { className: { '+': 'new', '-': 'gone' }[mark] ?? '', text: `${mark} ${line}\n` })))));
+    const these = { ...options, passes: names.slice(0, count).join(',') };
+    const left = await call('passes', { program: state.program, options: these });
+    if (left.status !== 0) return panel.append(await message(left, call));
+    const ran = await runOf(state, call, these), words = countsOf(ran).words, lines = left.out.replace(/\n$/, '').split('\n');
+    const changed = before ? changes(before, lines) : lines.map(line => [' ', line]), isSame = before && changed.every(([mark]) => mark === ' ');
+    const items = counted(linesOf(left.out).filter(line => line.item !== null).length, 'item'), name = count ? `after ${names[count - 1]}` : 'the program';
+    const title = `${name}: ${items}, ${words === null ? endOf(ran) : `${words} words`}${isSame ? ', nothing changed' : ''}`;
+    panel.append(make('details', { open: !isSame }, make('summary', { text: title }), marked(changed)));
     before = lines;
   }
 }
 
-export async function graph(state, view) {
-  const left = await call('graph', { program: state.program, args: state.args, options: { ...passOptions(state), stats: '' } });
-  if (left.status !== 0) return view.replaceChildren(message(left));
-  view.replaceChildren(make('p', { text: 'A guard that fails takes the red way; what it brings back is what stood at the grey arrow. Blue is a speculation.' }),
-    left.out.includes('<svg') ? make('img', { alt: 'The flow graphs', src: 'data:image/svg+xml;charset=utf-8,' + encodeURIComponent(left.out) }) : output(left.out, left));
-}
+const MOST_BLOCKS = { laid: 1500, own: 300 };
+const LEGEND = [['plain', 'a block of items'], ['speculative', 'in a speculation, as all of a trace'], ['next', 'where control goes'],
+  ['fails', 'where a guard goes that fails'], ['back', 'the state that it brings back']];
 
-// Records the profile of the program's run, with all entries switched on.
-export async function record(state) {
-  const left = await call('record', { program: state.program, args: state.args, options: { hot: String(state.hot) } });
-  state.recorded = true;
-  if (![0, 2].includes(left.status)) return left;
-  const [head, ...lines] = left.out.trimEnd().split('\n');
-  Object.assign(state, { head, entries: lines.map(line => ({ line, on: true })) });
-  return left;
-}
-
-export async function profile(state, view) {
-  const count = make('input', { type: 'number', min: 1, max: 65536, value: state.hot, id: 'hot', on: { change: () => { state.hot = count.value; } } });
+export async function graph(state, panel, call) {
+  const options = passOptions(state), ran = await runOf(state, call, options);
+  const left = await call('graph', { program: state.program, options: { ...options, ...(state.showsAll ? {} : { reached: '' }) } });
+  if (left.status !== 0) return panel.append(await message(left, call));
+  const functions = readGraph(left.out), blocks = functions.flatMap(one => one.blocks).length;
+  if (blocks > (left.laid ? MOST_BLOCKS.laid : MOST_BLOCKS.own)) {
+    return panel.append(make('p', { text: `These are too many blocks to draw: ${blocks}. This is their text for dot.` }), output(left.out));
+  }
+  addFailures(functions, countsOf(ran).guards);
+  const picture = drawGraph(functions, left.laid), width = +picture.getAttribute('width');
+  const frame = make('div', { id: 'picture', tabIndex: 0, attributes: { role: 'group', 'aria-label': 'The flow graphs' } }, picture);
+  let scale = 1;
+  const zoom = wanted => {
+    scale = Math.min(3, Math.max(0.3, wanted));
+    picture.setAttribute('width', width * scale);
+    picture.removeAttribute('height');
+  };
   const again = async () => {
-    const left = await record(state);
-    await profile(state, view);
-    if (![0, 2].includes(left.status)) view.append(message(left));
+    state.showsAll = all.checked;
+    panel.replaceChildren();
+    await graph(state, panel, call);
+    document.getElementById('all-blocks')?.focus();
   };
-  const told = make('p', { role: 'status' });
-  const count_words = async entries => countsOf(await call('run', { program: state.program, args: state.args, options: { ...passOptions({ ...state, entries }), stats: '' } })).words;
-  const refresh = async () => {
-    const words = await count_words(state.entries), none = await count_words(state.entries.map(entry => ({ ...entry, on: false })));
-    told.textContent = `With these entries ${words ?? 'no'} words, without any ${none ?? 'no'}.`;
-    for (const [place, entry] of state.entries.entries()) {
-      const other = await count_words(state.entries.map((one, at) => at === place ? { ...one, on: !one.on } : one));
-      entry.cell.textContent = words === null || other === null ? '-' : entry.on ? words - other : other - words;
-    }
-  };
-  const rows = state.entries.map(entry => {
-    entry.cell = make('td', { className: 'number' });
-    const box = make('input', { type: 'checkbox', checked: entry.on, ariaLabel: entry.line, on: { change: () => { entry.on = box.checked; refresh(); } } });
-    return make('tr', {}, make('td', {}, box), make('td', { className: 'mono', text: entry.line }), entry.cell);
-  });
-  view.replaceChildren(make('div', { className: 'row' }, button('Record this run', again, { id: 'record' }), make('label', { text: 'hot after ' }, count)),
-    ...(rows.length ? [told, make('table', {}, make('tr', {}, ...['', 'entry', 'words that it costs'].map(text => make('th', { text }))), ...rows)] : []));
-  if (rows.length && !state.list.includes('trace')) view.append(make('p', { text: 'Only the pass trace uses a profile: put it first into the list.' }));
-  if (rows.length) await refresh();
-}
-
-export async function listing(state, view) {
-  const options = passOptions(state);
-  const [items, words] = await Promise.all([call('passes', { program: state.program, options }), call('list', { program: state.program, options })]);
-  if (items.status !== 0 || words.status !== 0) return view.replaceChildren(message(items.status !== 0 ? items : words));
-  const numbered = linesOf(items.out).map(({ line, item }) => item === null ? line : `${String(item).padStart(4)} ${line}`).join('\n');
-  const listed = words.out.trimEnd().split('\n').map((line, place) => `${String(4 * place).padStart(6)}  ${line}`).join('\n');
-  view.replaceChildren(make('div', { className: 'columns' }, make('div', {}, make('h2', { text: 'Items' }), output(numbered)), make('div', {}, make('h2', { text: 'Machine words, by pc' }), output(listed, words))));
+  const all = make('input', { type: 'checkbox', checked: Boolean(state.showsAll), id: 'all-blocks', on: { change: again } });
+  panel.replaceChildren(
+    make('div', { className: 'row' }, button('Smaller', () => zoom(scale / 1.25)), button('Larger', () => zoom(scale * 1.25)),
+      make('label', {}, all, ' also what is never reached')),
+    make('ul', { className: 'legends' }, ...LEGEND.map(([kind, text]) => make('li', { className: `legend ${kind}`, text }))), frame);
+  zoom(Math.min(1, Math.max(0.85, frame.clientWidth / width)));
 }
