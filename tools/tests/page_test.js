@@ -127,7 +127,7 @@ async function written(text) {
 }
 
 async function wrong() {
-  for (const [name, text] of [['a type', '@main {\n  one: int = const 1;\n  # a comment; with a semicolon\n  print one;\n  print x;\n}\n'], ['the form', '@main {\n  print one\n}\n'],
+  for (const [name, text] of [['a name', '@main {\n  one: int = const 1;\n  # a comment; with a semicolon\n  print one;\n  print x;\n}\n'], ['the form', '@main {\n  print one\n}\n'],
     ['a function that is missing', '@main {\n  call @f;\n}\n'], ['no main', '@f {\n}\n'], ['an import', 'from "/etc/passwd" import @f;\n@main {\n}\n']]) {
     editor.text = text;
     await check();
