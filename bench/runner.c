@@ -1,7 +1,7 @@
 /* Runs an image of machine words under QEMU's user mode: the words as hexadecimal digits in the file argv[1], the words of
  * the stack argv[2], the cells argv[3], and then the words of main's arguments, as signed decimals. An environment call is
  * a breakpoint here, whose handler does what the call does. The exit status is 100 where the program ended and the fault's
- * number where it stopped with a fault. */
+ * number where it stopped with a fault. The cells of a freed block aren't used again, as if there were room for all. */
 #define _GNU_SOURCE
 #include <signal.h>
 #include <stdio.h>
@@ -10,12 +10,12 @@
 #include <sys/mman.h>
 #include <ucontext.h>
 
-enum { MOST_BLOCKS = 262144, CODE_BYTES = 4 * 250000 };
+enum { MOST_BLOCKS = 262144, CODE_BYTES = 4 * 250000, ROOM = 1 << 26 };
 
 static unsigned char *code;
 static long *const stack = (long *)0x10000000;
 static unsigned long *const table = (unsigned long *)0x20000000;
-static unsigned long cells, given, blocks;
+static unsigned long cells, given, live, blocks;
 static int started;
 
 static void stop(int status)
@@ -47,11 +47,13 @@ static unsigned long allocate(long count)
 {
     if (count < 1) stop(3);
     if (blocks >= MOST_BLOCKS) stop(11);
-    if ((unsigned long)count > cells || given + count > cells) stop(9);
+    if ((unsigned long)count > cells || live + count > cells) stop(9);
+    if (given + count > ROOM) stop(104);
     blocks++;
     table[2 * blocks] = 0x40000000 + 16 * given;
     table[2 * blocks + 1] = count;
     given += count;
+    live += count;
     return blocks << 32;
 }
 
@@ -59,6 +61,7 @@ static void release(unsigned long pointer)
 {
     unsigned long block = pointer >> 32;
     if ((pointer & 0xFFFFFFFF) || block > MOST_BLOCKS || !table[2 * block + 1]) stop(4);
+    live -= table[2 * block + 1];
     table[2 * block + 1] = 0;
 }
 
@@ -131,7 +134,7 @@ int main(int argc, char **argv)
     region((unsigned long)stack, 8 * strtoul(argv[2], 0, 10) + 4096);
     region((unsigned long)table, 16 * (MOST_BLOCKS + 1));
     cells = strtoul(argv[3], 0, 10);
-    region(0x40000000, 16 * cells);
+    region(0x40000000, 16ul * ROOM);
     while (fscanf(file, "%x", &word) == 1) {
         if (word == 0x73) word = 0x00100073;
         memcpy(code + 4 * count++, &word, 4);
