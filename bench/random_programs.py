@@ -15,6 +15,7 @@ INTS = [0, 1, 2, 3, 5, 7, -1, -2, 10, 100, 255, 2047, 2048, 4096, 55296, 1114111
 CHARS = ["'a'", "'Z'", "'0'", "'\\n'", "'é'", "'€'", "'😀'"]
 COMPARISONS = ["eq", "lt", "gt", "le", "ge"]
 POINTERS = {"p": "ptr<int>", "q": "ptr<ptr<int>>", "r": "ptr<char>"}
+LETTERS = {"int": "i", "bool": "b", "char": "c", **{ty: letter for letter, ty in POINTERS.items()}}
 # Each block has at least so many cells, and a pointer that is an argument goes to one.
 SIZE = 4
 # The most steps of a function that the others call, of one that calls itself by others, and of main; the most words of each.
@@ -60,6 +61,8 @@ FAULTS = {
     ],
 }
 OF_CORE = ["DivZero", "Frames"]
+# The types of the variables of a program, by its level.
+TYPES = {"core": ["int", "bool"], "memory": list(LETTERS), "all": list(LETTERS)}
 # The lines that come to the fault of a function which has one.
 CALLED_FAULT = "call @bad {i}"
 
@@ -107,15 +110,16 @@ class Function:
         self.fresh = 0
         # How often what is put now is executed at most, and what was put takes in all: steps, frames below, and words of the image.
         self.turns, self.cost, self.frames, self.words = 1, 0, 0, 0
-        # The labels of the open speculations, each with the blocks that were live there, and the counters of the loops around.
+        # The labels of the open speculations, each with how many blocks were live there, and the counters of the loops around.
         self.open, self.counters = [], []
-        self.vars = {"int": ["i%d" % k for k in range(numbers.choice([3, 5, 5, 5, 8, 30, 130, 320]))], "bool": ["b0", "b1", "b2"]}
-        if level != "core":
-            self.vars["char"] = ["c0", "c1"]
-            for letter, ty in POINTERS.items():
-                self.vars[ty] = [letter + "0", letter + "1"]
+        # A function of few variables often has all of them in registers.
+        self.few, self.turn = numbers.random() < 0.4, 0
+        ints = 2 if self.few else numbers.choice([3, 5, 5, 5, 8, 30, 130, 320])
+        self.vars = {ty: ["%s%d" % (LETTERS[ty], k) for k in range(ints if ty == "int" else 1 if self.few else 2)] for ty in TYPES[level]}
         self.blocks = [Block(arg, ty, SIZE, False) for arg, ty in args if ty.startswith("ptr")]
         self.shadowed = {ty: names if len(names) < 40 else numbers.sample(names, 20) for ty, names in self.vars.items()}
+        if self.few:
+            self.shadowed = {ty: self.shadowed[ty] for ty in numbers.sample(list(self.vars), 2)}
         for arg, ty in args[1 if counts else 0:]:
             if not ty.startswith("ptr"):
                 self.vars[ty] = self.vars[ty] + [arg]
@@ -148,6 +152,19 @@ class Function:
     def constant(self, number, letter="k"):
         """A variable of its own with this number."""
         name = "%s%d" % (letter, self.number())
+        self.put("%s: int = const %d" % (name, number))
+        return name
+
+    def temporary(self, ty):
+        """A name for what is read just behind: one of its own, or in a function of few variables one of four that take turns."""
+        if not self.few:
+            return "s%s%d" % (LETTERS[ty], self.number())
+        self.turn = (self.turn + 1) % 4
+        return "s%s%d" % (LETTERS[ty], self.turn)
+
+    def brief(self, number):
+        """A constant that is read just behind."""
+        name = self.temporary("int")
         self.put("%s: int = const %d" % (name, number))
         return name
 
@@ -195,9 +212,9 @@ class Function:
 
     def put_divide(self):
         """By a constant, or by an odd number that was computed."""
-        divisor = self.constant(self.random.choice([1, 2, 3, 7, -1, -5, 10, 2 ** 31, MOST, LEAST]), "d")
+        divisor = self.brief(self.random.choice([1, 2, 3, 7, -1, -5, 10, 2 ** 31, MOST, LEAST]))
         if self.random.random() < 0.5:
-            one = self.constant(1)
+            one = self.brief(1)
             self.put("%s: int = mul %s %s" % ((divisor,) + (self.any("int"),) * 2))
             self.put("%s: int = mul %s %s" % (divisor, divisor, divisor))
             self.put("%s: int = add %s %s" % (divisor, divisor, divisor))
@@ -246,14 +263,14 @@ class Function:
     def put_letter(self):
         """The char of a constant, or of a square below the surrogates that was computed."""
         if self.random.random() < 0.5:
-            name = self.constant(self.random.choice([65, 233, 55295, 57344, 1114111]), "n")
+            name = self.brief(self.random.choice([65, 233, 55295, 57344, 1114111]))
         else:
             name = self.square(self.any("int"), 234)
         self.put("%s: char = int2char %s" % (self.any("char"), name))
 
     def square(self, name, most):
         """A variable of its own with the square of a number that is the rest of one divided by this."""
-        rest, divisor = "n%d" % self.number(), self.constant(most, "d")
+        rest, divisor = self.temporary("int"), self.brief(most)
         self.put("%s: int = div %s %s" % (rest, name, divisor))
         self.put("%s: int = mul %s %s" % (rest, rest, divisor))
         self.put("%s: int = sub %s %s" % (rest, name, rest))
@@ -276,9 +293,9 @@ class Function:
         kind, name = self.random.random(), self.any("int")
         if kind < 0.4:
             return self.any("bool")
-        dest = "t%d" % self.number()
+        dest = self.temporary("bool")
         if self.counters and kind < 0.7:
-            other = self.constant(self.random.randint(0, 4))
+            other = self.brief(self.random.randint(0, 4))
             self.put("%s: bool = %s %s %s" % (dest, self.random.choice(COMPARISONS), self.random.choice(self.counters), other))
         else:
             self.put("%s: bool = %s %s %s" % (dest, self.random.choice(COMPARISONS), name, self.random.choice([name, self.any("int")])))
@@ -289,13 +306,13 @@ class Function:
     def put_move(self):
         """A pointer that nothing reads through."""
         ty = self.random.choice(list(POINTERS.values()))
-        self.put("%s: %s = ptradd %s %s" % (self.any(ty), ty, self.any(ty), self.constant(self.random.choice([0, 1, 1, 2, -1]))))
+        self.put("%s: %s = ptradd %s %s" % (self.any(ty), ty, self.any(ty), self.brief(self.random.choice([0, 1, 1, 2, -1]))))
 
     def put_far(self):
         """A pointer to the last and the first offset that there are."""
-        far = self.constant(self.random.choice([2 ** 31 - 1, -2 ** 31]))
+        far = self.brief(self.random.choice([2 ** 31 - 1, -2 ** 31]))
         ty = self.random.choice(list(POINTERS.values()))
-        name = "e%d" % self.number()
+        name = self.temporary(ty)
         self.put("%s: %s = undef" % (name, ty))
         self.put("%s: %s = ptradd %s %s" % (name, ty, name, far))
 
@@ -304,15 +321,14 @@ class Function:
         if self.random.random() < 0.3:
             return name
         if self.random.random() < 0.5:
-            offset = self.constant(self.random.randrange(size))
+            offset = self.brief(self.random.randrange(size))
         else:
             offset = self.square(self.square(self.any("int"), 1000), size)
-            divisor = self.constant(size, "d")
-            whole = "n%d" % self.number()
+            divisor, whole = self.brief(size), self.temporary("int")
             self.put("%s: int = div %s %s" % (whole, offset, divisor))
             self.put("%s: int = mul %s %s" % (whole, whole, divisor))
             self.put("%s: int = sub %s %s" % (offset, offset, whole))
-        cell = "e%d" % self.number()
+        cell = self.temporary(ty)
         self.put("%s: %s = ptradd %s %s" % (cell, ty, name, offset))
         return cell
 
@@ -322,7 +338,7 @@ class Function:
         cell = self.element(block.name, block.type, block.size)
         if block.type != "ptr<ptr<int>>":
             return self.put("%s: %s = load %s" % (self.any(block.type[4:-1]), block.type[4:-1], cell))
-        inner = "e%d" % self.number()
+        inner = self.temporary("ptr<int>")
         self.put("%s: ptr<int> = load %s" % (inner, cell))
         cell = self.element(inner, "ptr<int>", SIZE)
         self.put(self.random.choice(["%s: int = load %s" % (self.any("int"), cell), "store %s %s" % (cell, self.any("int"))]))
@@ -342,16 +358,16 @@ class Function:
         """A load through another variable, to which the pointer came by a copy, by a shadow, or from far away."""
         block = self.random.choice(self.blocks)
         ty, ways = block.type, ["copy", "far"] + (["shadow"] if self.level == "all" else [])
-        name, way = self.random.choice(self.shadowed[ty]), self.random.choice(ways)
+        name, way = self.random.choice(self.vars[ty]), self.random.choice(ways)
         if way == "shadow":
             self.put("set %s %s" % (name, block.name))
             self.put("%s: %s = get" % (name, ty))
         elif way == "far":
-            self.put("%s: %s = ptradd %s %s" % (name, ty, block.name, self.constant(2 ** 31 - 1)))
-            self.put("%s: %s = ptradd %s %s" % (name, ty, name, self.constant(1 - 2 ** 31)))
+            self.put("%s: %s = ptradd %s %s" % (name, ty, block.name, self.brief(2 ** 31 - 1)))
+            self.put("%s: %s = ptradd %s %s" % (name, ty, name, self.brief(1 - 2 ** 31)))
         else:
             self.put("%s: %s = id %s" % (name, ty, block.name))
-        dest = self.any(ty[4:-1]) if ty != "ptr<ptr<int>>" else "e%d" % self.number()
+        dest = self.any(ty[4:-1]) if ty != "ptr<ptr<int>>" else self.temporary("ptr<int>")
         self.put("%s: %s = load %s" % (dest, ty[4:-1], self.element(name, ty, block.size)))
 
     def has(self, ty):
@@ -363,9 +379,9 @@ class Function:
             self.begin_block("ptr<int>")
         size, name = self.random.choice([SIZE, SIZE, SIZE + 1, 8, 17]), "m%d" % self.number()
         values = self.vars[ty[4:-1]] if ty != "ptr<ptr<int>>" else [block.name for block in self.blocks if block.type == "ptr<int>"]
-        self.put("%s: %s = alloc %s" % (name, ty, self.constant(size)))
-        offset, one, cell, least = self.constant(size, "n"), self.constant(1), "e%d" % self.number(), self.constant(0)
-        again, after, more = self.label(), self.label(), "t%d" % self.number()
+        self.put("%s: %s = alloc %s" % (name, ty, self.brief(size)))
+        offset, one, least, cell = self.brief(size), self.brief(1), self.brief(0), self.temporary(ty)
+        again, after, more = self.label(), self.label(), self.temporary("bool")
         self.turns *= size
         self.place(again)
         self.put("%s: int = sub %s %s" % (offset, offset, one))
@@ -398,18 +414,21 @@ class Function:
         if self.open or not within:
             return self.compute()
         callee, before, words = self.random.choice(within), len(self.blocks), []
+        if callee.name == "down":
+            callee = self.random.choice(within)
+        for _, ty in callee.args:
+            if ty.startswith("ptr") and not self.has(ty):
+                self.begin_block(ty)
         for name, ty in callee.args:
             if name == "n":
-                words.append("n" if callees else self.constant(self.random.randint(0, callee.most)))
+                words.append("n" if callees else self.brief(self.random.randint(0, callee.most)))
             elif ty.startswith("ptr"):
-                if not self.has(ty):
-                    self.begin_block(ty)
                 words.append(self.random.choice([block.name for block in self.blocks if block.type == ty]))
             else:
                 words.append(self.any(ty))
         line = " ".join(["call @" + callee.name] + words)
         if callee.ret == "ptr<int>":
-            made = "e%d" % self.number()
+            made = self.temporary("ptr<int>")
             self.put("%s: ptr<int> = %s" % (made, line))
             self.put("%s: int = load %s" % (self.any("int"), self.element(made, "ptr<int>", SIZE)))
         else:
@@ -436,8 +455,7 @@ class Function:
         if self.turns * max(count, 1) > self.most / 20:
             return self.compute()
         counter, one, zero = self.constant(count, "n"), self.constant(1), self.constant(0)
-        more, next_counter = "t%d" % self.number(), "n%d" % self.number()
-        again, body, after = self.label(), self.label(), self.label()
+        again, body, after, more = self.label(), self.label(), self.label(), self.temporary("bool")
         by_shadow = self.level == "all" and self.random.random() < 0.4
         if by_shadow:
             self.put("set %s %s" % (counter, counter))
@@ -452,6 +470,7 @@ class Function:
         self.block(fuel)
         self.counters.pop()
         if by_shadow:
+            next_counter = self.temporary("int")
             self.put("%s: int = sub %s %s" % (next_counter, counter, one))
             self.put("set %s %s" % (counter, next_counter))
         else:
@@ -645,7 +664,7 @@ def recursive(most):
 
 
 def arguments(numbers, types, most):
-    return [("a%d" % k, numbers.choice(types)) for k in range(numbers.choice([0, 1, 2, 3, 4, most]))]
+    return [("a%d" % k, numbers.choice(types)) for k in range(numbers.choice([0, 1, 2, 3, 4, numbers.randint(5, most)]))]
 
 
 def group(numbers, level, types, callees):
