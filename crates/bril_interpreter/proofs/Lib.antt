@@ -8,6 +8,7 @@ pub mod Plain
 pub mod Printed
 pub mod QuickItems
 pub mod Runs
+pub mod SavedLists
 pub mod Spots
 pub mod Steps
 pub mod Tables

@@ -28,23 +28,6 @@ fn spare_frame(returned: &mut Vec<Frame>, alloc: Global) -> Result<Frame, AllocE
     }
 }
 
-// Keeps lists of locations for a later save, where there is room. Takes no memory.
-pub fn keep(spare: &mut Vec<Locals>, lists: Option<Locals>) {
-    if let Some(lists) = lists {
-        if spare.len() < spare.capacity() {
-            spare.push_reserved(lists);
-        }
-    }
-}
-
-// Lists of locations for a save, whatever they hold. Takes no memory.
-pub fn spare_lists(spare: &mut Vec<Locals>, alloc: Global) -> Locals {
-    match spare.pop() {
-        Some(used) => used,
-        None => Locals::none(alloc),
-    }
-}
-
 // The destination of an item, where it has one.
 fn dest_in(item: &Instr) -> Option<u32>
     ensures { result ≡ dest_of item.now }

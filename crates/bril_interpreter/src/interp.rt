@@ -9,7 +9,7 @@ use crate::frame::Frame;
 use crate::locals::Locals;
 use crate::lookup::{items_of, variables_of};
 use crate::operand::number_at;
-use crate::table::{Table, tables_of};
+use crate::table::{Table, shades_in, tables_of};
 use bril_checker::Checked;
 use bril_heap::Cells;
 use bril_tree::limits::{End, Fault, Limits};
@@ -29,9 +29,8 @@ pub struct Interp<'a> {
     pub(crate) cells: Cells,
     pub(crate) ended: Option<End>,
     pub(crate) tables: Vec<Table>,
-    // The frames of calls that returned, for later calls, and the lists of dropped saves, for later ones.
+    // The frames of calls that returned, for later calls.
     pub(crate) returned: Vec<Frame>,
-    pub(crate) spare: Vec<Locals>,
     pub(crate) failed: bool,
 }
 
@@ -78,7 +77,9 @@ impl<'a> Interp<'a> {
     {
         let program = prog.prog();
         let main = program.main;
-        let locations = Locals::start(alloc, args, variables_of(program, main))?;
+        let tables = tables_of(alloc, program.funcs.as_slice())?;
+        let shades = shades_in(tables.as_slice(), main);
+        let locations = Locals::start(alloc, args, variables_of(program, main), shades)?;
         let newest = Frame::start(alloc, main, locations)?;
         Ok(Interp {
             checked: prog,
@@ -87,9 +88,8 @@ impl<'a> Interp<'a> {
             older: Vec::new(alloc),
             cells: Cells::new(alloc, limits.cells),
             ended: None,
-            tables: tables_of(alloc, program.funcs.as_slice())?,
+            tables,
             returned: Vec::new(alloc),
-            spare: Vec::new(alloc),
             failed: false,
         })
     }

@@ -2,7 +2,6 @@
 
 ghost use Rattle.std.specs.Prelude.{◌≡◌, OnOk, OnErr};
 
-use crate::calls::{keep, spare_lists};
 use crate::interp::Interp;
 use bril_tree::value::Value;
 use std::alloc::AllocError;
@@ -28,9 +27,7 @@ impl<'a> Interp<'a> {
         ensures ok { OnOk result (Makes self.old (under self.old speculates) self.new) }
         ensures err { OnErr result (self.new ≡ self.old) }
     {
-        self.spare.reserve(1)?;
-        let lists = spare_lists(&mut self.spare, *self.older.allocator());
-        self.newest.save(lists)?;
+        self.newest.save()?;
         self.newest.advance();
         Ok(())
     }
@@ -40,8 +37,7 @@ impl<'a> Interp<'a> {
         requires { IsAtItem self.old }
         ensures { Makes self.old (under self.old commits) self.new }
     {
-        let dropped = self.newest.drop_save();
-        keep(&mut self.spare, dropped);
+        self.newest.drop_save();
         self.newest.advance();
     }
 
@@ -55,8 +51,7 @@ impl<'a> Interp<'a> {
             return self.advance();
         }
         self.count_failure();
-        let dropped = self.newest.put_back();
-        keep(&mut self.spare, dropped);
+        self.newest.put_back();
         self.jump(label);
     }
 
