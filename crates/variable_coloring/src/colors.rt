@@ -15,6 +15,7 @@ use crate::classes::Classes;
 use crate::copies::copies_in;
 use crate::pairs::pairs_in;
 use crate::rows::Rows;
+use crate::softs::Softs;
 use bril_tree::numbered_function::Func;
 use bril_tree::types::{Base, Ty};
 use flow_graph::{AccessLists, Graph};
@@ -175,6 +176,7 @@ impl Colors {
         func: &Func,
         pairs: &AccessLists,
         copies: &AccessLists,
+        softs: &AccessLists,
         x: u32,
     ) -> Result<(), AllocError>
         requires few { length func.now.vars ≤ 2 ^ 32 - 1 }
@@ -190,7 +192,9 @@ impl Colors {
         }
         let met = pairs.items(alloc, x)?;
         let variables = copies.items(alloc, x)?;
+        let softs = softs.items(alloc, x)?;
         self.classes.stamp_all(x, met.as_slice());
+        self.classes.stamp_softs(x, softs.as_slice());
         self.put(func, x, variables.as_slice())?;
         Ok(())
     }
@@ -212,11 +216,13 @@ pub(crate) fn colors_in(alloc: Global, func: &Func, graph: &Graph) -> Result<Vec
     if count > u32::MAX as usize {
         return Err(AllocError);
     }
-    let pairs = pairs_in(alloc, func, graph)?;
+    let mut softs = Softs::of(alloc, func, graph)?;
+    let pairs = pairs_in(alloc, func, graph, &mut softs)?;
+    let softs = softs.lists(alloc)?;
     let copies = copies_in(alloc, func)?;
     let mut colors = Colors::new(alloc, func)?;
     for x in 0..count {
-        colors.look_at(alloc, func, &pairs, &copies, x as u32)?;
+        colors.look_at(alloc, func, &pairs, &copies, &softs, x as u32)?;
     }
     Ok(colors.classes.class)
 }

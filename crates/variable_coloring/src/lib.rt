@@ -3,7 +3,7 @@
 //!
 //! 1. What the pass finds in a function (`specs/Colors.antt`): classes of variables, as large as can be. First come the pairs of
 //!    variables that meet, one assigned while the other is live (`specs/Pairs.antt`, `src/pairs.rt`, `src/dests.rt`, `proofs/Pairing.antt`), and
-//!    the variables that copies relate (`src/copies.rt`). Then the variables, in the order of their first appearance, are put
+//!    the variables that copies relate (`src/copies.rt`), and those that had better not share a name (`src/softs.rt`). Then the variables, in the order of their first appearance, are put
 //!    into classes of before, or begin one (`specs/Growing.antt`, `src/colors.rt`, `proofs/Placing.antt`): a class that meets a
 //!    variable is stamped (`src/classes.rt`, `proofs/Stamping.antt`), what a variable may be put into is apart from it and what
 //!    not isn't (`proofs/Fitting.antt`, `proofs/Joining.antt`), and heads of classes stand in rows by their types
@@ -19,5 +19,6 @@ mod copies;
 mod dests;
 mod pairs;
 mod rows;
+mod softs;
 
 pub use color::{Color, ColorEdit};

@@ -12,6 +12,7 @@ ghost use Rattle.variable_renaming.specs.Clashes.{Clashes};
 ghost use Rattle.variable_coloring.specs.Pairs.{AddsPair, AddsPairs, AreDests, ArePairs, AreStamps, IsPrepared, pair};
 
 use crate::dests::dests_in;
+use crate::softs::Softs;
 use bril_tree::numbered_function::Func;
 use flow_graph::{Access, AccessLists, Graph};
 use graph_search::{Reached, number_of_length};
@@ -145,6 +146,7 @@ impl Meetings {
         dests: &[Option<u32>],
         flow: &Flow,
         reached: &mut Reached,
+        softs: &mut Softs,
         x: u32,
     ) -> Result<(), AllocError>
         requires prepared { IsPrepared related.func.now related.graph.now related.marks.now dests.now }
@@ -157,6 +159,7 @@ impl Meetings {
         ensures adds { OnOk result (AddsPairs related.entry.func.now x (IsLive related.entry.func.now.code (Variable x)) self.old.list.items self.new.list.items) }
     {
         search(alloc, related.func, flow, reached, x)?;
+        softs.add(alloc, x, reached.found())?;
         self.add_all(related, dests, x, reached.found())?;
         Ok(())
     }
@@ -168,6 +171,7 @@ impl Meetings {
         related: Related<'_>,
         dests: &[Option<u32>],
         flow: &Flow,
+        softs: &mut Softs,
     ) -> Result<(), AllocError>
         requires prepared { IsPrepared related.func.now related.graph.now related.marks.now dests.now }
         requires flow { IsFlowOf related.func.now.code flow.now }
@@ -179,15 +183,21 @@ impl Meetings {
     {
         let mut reached = Reached::new(alloc, flow.points())?;
         for x in 0..related.marks.len() {
-            self.look_at(alloc, related, dests, flow, &mut reached, x as u32)?;
+            self.look_at(alloc, related, dests, flow, &mut reached, softs, x as u32)?;
         }
         Ok(())
     }
 }
 
-// The pairs of a function's variables that meet, each in the row of the larger variable. A function with 2^32 - 1 pairs or more is
+// The pairs of a function's variables that meet, each in the row of the larger variable; those that had better not share a name are
+// added to `softs`. A function with 2^32 - 1 pairs or more is
 // taken to need more memory than there is.
-pub(crate) fn pairs_in(alloc: Global, func: &Func, graph: &Graph) -> Result<AccessLists, AllocError>
+pub(crate) fn pairs_in(
+    alloc: Global,
+    func: &Func,
+    graph: &Graph,
+    softs: &mut Softs,
+) -> Result<AccessLists, AllocError>
     requires shaped { shape_fault_of (is_some func.now.ret) func.now.code ≡ None }
     requires few { length func.now.code < 2 ^ 32 - 1 }
     requires graph { IsGraphOf func.now.code graph.now }
@@ -205,7 +215,7 @@ pub(crate) fn pairs_in(alloc: Global, func: &Func, graph: &Graph) -> Result<Acce
     let dests = dests_in(alloc, func, graph)?;
     let flow = Flow::of(alloc, func, graph)?;
     let mut meetings = Meetings::new(alloc, count)?;
-    meetings.look_at_all(alloc, related, dests.as_slice(), &flow)?;
+    meetings.look_at_all(alloc, related, dests.as_slice(), &flow, softs)?;
     number_of_length(meetings.list.len())?;
     let pairs = AccessLists::of(alloc, meetings.list)?;
     Ok(pairs)
