@@ -1,5 +1,4 @@
 pub mod Moving
-pub mod Pointers
 pub mod Regions
 pub mod Stretches
 pub mod Tries
