@@ -1,4 +1,5 @@
 pub mod Moving
+pub mod Pointers
 pub mod Regions
 pub mod Stretches
 pub mod Tries

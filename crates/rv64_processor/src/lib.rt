@@ -15,6 +15,7 @@ mod group_steps;
 pub mod memory;
 mod memory_steps;
 pub mod operation;
+mod pointer_steps;
 pub mod processor;
 pub mod region;
 mod register_steps;

@@ -1,9 +1,12 @@
 // A region of memory: words that are all 0 at first.
 
-ghost use Rattle.std.specs.Prelude.{◌≡◌, ◌+◌, ◌<◌, ◌≤◌, IfOk, vec_len, vec_capacity};
+ghost use Rattle.std.specs.Prelude.{◌≡◌, ◌+◌, ◌^◌, ◌<◌, ◌≤◌, IfOk, vec_len, vec_capacity};
 ghost use Rattle.rv64_words.specs.State.{assigned};
 
 use std::alloc::{AllocError, Global};
+
+// The most words of a region: the bytes of more have no addresses.
+const MOST_WORDS: usize = 1 << 60;
 
 /// So many words. Those up to the last one that was written are held, and the room of the others is reserved: a write never
 /// takes memory, and a region that is made takes time for what it is used, not for its size.
@@ -13,6 +16,7 @@ pub struct Region {
     size: usize,
     ghost fits: { vec_len words ≤ size },
     ghost room: { size ≤ vec_capacity words },
+    ghost small: { size ≤ 2 ^ 60 },
 }
 
 impl Region {
@@ -23,6 +27,9 @@ impl Region {
         ensures size { IfOk result (λ region. size_in region ≡ size) }
         ensures words { IfOk result (λ region. words_in region ≡ (λ _. 0)) }
     {
+        if size > MOST_WORDS {
+            return Err(AllocError);
+        }
         Ok(Region {
             words: Vec::with_capacity(alloc, size)?,
             size,
@@ -100,6 +107,7 @@ impl Region {
     pub(crate) fn written(&self) -> usize
         ensures value { result ≡ written_in self.now }
         ensures fits { result ≤ size_in self.now }
+        ensures small { result ≤ 2 ^ 60 }
     {
         self.words.len()
     }

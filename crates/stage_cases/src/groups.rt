@@ -85,6 +85,10 @@ fn name_of(group: Group) -> &'static str {
         Group::Add(..) => "Add",
         Group::Sub(..) => "Sub",
         Group::Mul(..) => "Mul",
+        Group::And(..) => "And",
+        Group::Or(..) => "Or",
+        Group::Less(..) => "Less",
+        Group::Not(..) => "Not",
         Group::AddConstant(..) => "AddConstant",
         Group::AddTwoConstants(..) => "AddTwoConstants",
         Group::AddAdd(..) => "AddAdd",
@@ -100,6 +104,10 @@ fn name_of(group: Group) -> &'static str {
         Group::Copy(..) => "Copy",
         Group::CopyTwo(..) => "CopyTwo",
         Group::CopyJump(..) => "CopyJump",
+        Group::CopyAdd(..) => "CopyAdd",
+        Group::AddAddJump(..) => "AddAddJump",
+        Group::AddSubJump(..) => "AddSubJump",
+        Group::MulAddJump(..) => "MulAddJump",
         _ => name_of_branch(group),
     }
 }
@@ -109,6 +117,8 @@ fn name_of_branch(group: Group) -> &'static str {
     match group {
         Group::Same(..) => "Same",
         Group::NotLess(..) => "NotLess",
+        Group::SameOr(..) => "SameOr",
+        Group::SameOrTwo(..) => "SameOrTwo",
         Group::Branch(..) => "Branch",
         Group::LessBranch(..) => "LessBranch",
         Group::SameBranch(..) => "SameBranch",
@@ -123,6 +133,23 @@ fn name_of_branch(group: Group) -> &'static str {
         Group::NotLessTurnedBranch(..) => "NotLessTurnedBranch",
         Group::Divide(..) => "Divide",
         Group::ToChar(..) => "ToChar",
+        _ => name_of_loop(group),
+    }
+}
+
+// Branches to a jump, and those by whether a flag is 0.
+fn name_of_loop(group: Group) -> &'static str {
+    match group {
+        Group::LoopBranch(..) => "LoopBranch",
+        Group::LessLoopBranch(..) => "LessLoopBranch",
+        Group::SameLoopBranch(..) => "SameLoopBranch",
+        Group::NotLessLoopBranch(..) => "NotLessLoopBranch",
+        Group::UnlessLess(..) => "UnlessLess",
+        Group::UnlessSame(..) => "UnlessSame",
+        Group::UnlessNotLess(..) => "UnlessNotLess",
+        Group::UnlessLessLoop(..) => "UnlessLessLoop",
+        Group::UnlessSameLoop(..) => "UnlessSameLoop",
+        Group::UnlessNotLessLoop(..) => "UnlessNotLessLoop",
         _ => name_of_cell(group),
     }
 }
@@ -136,6 +163,8 @@ fn name_of_cell(group: Group) -> &'static str {
         Group::LoadHere(..) => "LoadHere",
         Group::StoreCell(..) => "StoreCell",
         Group::MarkHere => "MarkHere",
+        Group::MoveLoad(..) => "MoveLoad",
+        Group::MoveStore(..) => "MoveStore",
         _ => name_of_call(group),
     }
 }
@@ -212,6 +241,22 @@ fn name_of_frame(group: Group) -> &'static str {
         Group::FrameBranch(..) => "FrameBranch",
         Group::FrameDirectBranch(..) => "FrameDirectBranch",
         Group::FrameTurnedBranch(..) => "FrameTurnedBranch",
+        Group::FrameLoopBranch(..) => "FrameLoopBranch",
+        _ => name_of_change(group),
+    }
+}
+
+// Words of the frame that are changed.
+fn name_of_change(group: Group) -> &'static str {
+    match group {
+        Group::FrameIncrease(..) => "FrameIncrease",
+        Group::FrameDecrease(..) => "FrameDecrease",
+        Group::FrameIncreaseBy(..) => "FrameIncreaseBy",
+        Group::FrameSubtract(..) => "FrameSubtract",
+        Group::FrameIncreaseTwo(..) => "FrameIncreaseTwo",
+        Group::FrameDecreaseTwo(..) => "FrameDecreaseTwo",
+        Group::FrameIncreaseByTwo(..) => "FrameIncreaseByTwo",
+        Group::FrameSubtractTwo(..) => "FrameSubtractTwo",
         _ => "Single",
     }
 }
