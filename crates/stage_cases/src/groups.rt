@@ -67,7 +67,7 @@ fn add_group(
     group: Group,
     shown: &mut Vec<u8>,
 ) -> Result<(), AllocError> {
-    if matches!(group, Group::Single) {
+    if matches!(group, Group::Single | Group::Outside) {
         return Ok(());
     }
     let name = name_of(group);
