@@ -1,8 +1,13 @@
+pub mod Clearing
+pub mod Finding
 pub mod Fitting
 pub mod Heads
 pub mod Joining
+pub mod LiveArcs
 pub mod Made
 pub mod Pairing
 pub mod Placing
+pub mod Preparing
+pub mod Seeding
 pub mod Shipped
 pub mod Stamping

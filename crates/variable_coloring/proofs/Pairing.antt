@@ -1,9 +1,9 @@
 -- The pairs that a search finds.
-use Rattle.std.proofs.Common.{◌≡◌, ℕ, suc, ◌+◌, ◌-◌, ◌<◌, ◌≤◌, cond, List, [], ◌∷◌, ◌++◌, length, get_or, take, Option, Some, None, refl, sym, ap, subst, ◌∙◌, inl, inr, ⊎_elim, arith}
+use Rattle.std.proofs.Common.{◌≡◌, ◌⊎◌, ℕ, suc, ◌+◌, ◌*◌, ◌-◌, ◌<◌, ◌≤◌, true, cond, List, [], ◌∷◌, ◌++◌, length, get_or, set, take, Option, Some, None, refl, sym, ap, subst, ◌∙◌, inl, inr, ⊎_elim, arith}
 use Rattle.std.specs.Prelude.{slice_index}
 use Rattle.std.specs.List.{Contains}
 use Rattle.std.proofs.lemmas.Bool.{cases_eq, cases_lt, lt-ltb, le-ltb}
-use Rattle.std.proofs.lemmas.List.{get_or_append_left, get_or_push}
+use Rattle.std.proofs.lemmas.List.{get_or-set_other, get_or-set_same, get_or_append_left, get_or_push, length-set}
 use Rattle.std.proofs.lemmas.List.Elements.{Contains-push_cases}
 use Rattle.std.proofs.lemmas.Option.{slice_get_within}
 use Rattle.std.proofs.Math.Seq.{take-suc}
@@ -19,7 +19,9 @@ use Rattle.bril_tree.proofs.Members.{in_append_left}
 use Rattle.flow_graph.specs.Accesses.{Accesses}
 use Rattle.flow_graph.specs.declared.reads.Access.{Access}
 use Rattle.variable_renaming.specs.Clashes.{Clashes}
-use Rattle.variable_coloring.specs.Pairs.{AddsPair, AddsPairs, AreDests, ArePairs, AreStamps, IsPair, IsPairOf, pair}
+use Rattle.graph_search.specs.Sets.{has_bit}
+use Rattle.variable_coloring.specs.LiveWords.{variable_in}
+use Rattle.variable_coloring.specs.Pairs.{AddsPair, AddsPairs, AreDests, AreDone, ArePairs, IsPair, IsPairOf, pair}
 
 -- ---- what a clash assigns
 
@@ -69,30 +71,41 @@ pair-of F item x y low c = ⊎_elim
 
 -- ---- pairs are added
 
-module _ (F : Func) (x : ℕ) where
+module _ (F : Func) (block : ℕ) where
   -- they are there already
-  pub adds-there : (old : List Access) (IsPoint : ℕ → Type 0) → ((item y : ℕ) → IsPoint (suc item) → Clashes F.code item y x → Contains old (pair x y)) → AddsPairs F x IsPoint old old
-  adds-there old IsPoint there = record { kept = λ a i. i; only = λ a i. inl i; all = there }
+  pub adds-there : (old : List Access) (P : ℕ → ℕ → Type 0) → ((item y k : ℕ) → P k (suc item) → Clashes F.code item y (variable_in block k) → Contains old (pair (variable_in block k) y)) → AddsPairs F block P old old
+  adds-there old P there = record { kept = λ a i. i; only = λ a i. inl i; all = there }
 
-  pub adds-one : (old new : List Access) (point y : ℕ) → x < length F.vars → 1 ≤ point → ((item : ℕ) → suc item ≡ point → Clashes F.code item y x) → ((item z : ℕ) → suc item ≡ point → Clashes F.code item z x → z ≡ y) → AddsPair x y old new → AddsPairs F x (λ p. p ≡ point) old new
-  adds-one old new point y low after some alone a = record {
+  pub adds-one : (old new : List Access) (k point y : ℕ) → variable_in block k < length F.vars → 1 ≤ point → ((item : ℕ) → suc item ≡ point → Clashes F.code item y (variable_in block k))
+      → ((item z : ℕ) → suc item ≡ point → Clashes F.code item z (variable_in block k) → z ≡ y) → AddsPair (variable_in block k) y old new → AddsPairs F block (λ j p. (j ≡ k) × (p ≡ point)) old new
+  adds-one old new k point y low after some alone a = record {
     kept = a.kept;
-    only = λ b i. ⊎_elim inl (λ e. inr (subst (IsPairOf F) e (pair-of F (point - 1) x y low (some (point - 1) (omega (arith, after)))))) (a.only b i);
-    all = λ item z p c. subst (λ v. Contains new (pair x v)) (sym (alone item z p c)) a.there;
+    only = λ b i. ⊎_elim inl (λ e. inr (subst (IsPairOf F) e (pair-of F (point - 1) (variable_in block k) y low (some (point - 1) (omega (arith, after)))))) (a.only b i);
+    all = λ item z j p c.
+        let here = subst (λ i. Clashes F.code item z (variable_in block i)) p.0 c in
+        subst (λ i. Contains new (pair (variable_in block i) z)) (sym p.0) (subst (λ v. Contains new (pair (variable_in block k) v)) (sym (alone item z p.1 here)) a.there);
   }
 
-  take-next : (xs : List ℕ) (n place : ℕ) → n < length xs → Contains (take (n + 1) xs) place → (place ≡ get_or xs n 0 → ⊥) → Contains (take n xs) place
-  take-next xs n place low c other = ⊎_elim (λ h. h) (λ e. absurd (other (sym e))) (Contains-push_cases (take n xs) (get_or xs n 0) place (subst (λ l. Contains l place) (take-suc xs n 0 low) (subst (λ m. Contains (take m xs) place) (let h : n + 1 ≡ suc n = omega arith in h) c)))
-
-  pub adds-more : (first middle last : List Access) (points : List ℕ) (n : ℕ) → n < length points → AddsPairs F x (Contains (take n points)) first middle → AddsPairs F x (λ p. p ≡ get_or points n 0) middle last → AddsPairs F x (Contains (take (n + 1) points)) first last
-  adds-more first middle last points n low a b = record {
+  -- first some, then others
+  pub adds-then : (first middle last : List Access) (P Q R : ℕ → ℕ → Type 0) → AddsPairs F block P first middle → AddsPairs F block Q middle last
+      → ((item y k : ℕ) → R k (suc item) → Clashes F.code item y (variable_in block k) → P k (suc item) ⊎ Q k (suc item)) → AddsPairs F block R first last
+  adds-then first middle last P Q R a b split = record {
     kept = λ c i. b.kept c (a.kept c i);
     only = λ c i. ⊎_elim (λ h. a.only c h) inr (b.only c i);
-    all = λ item y p c. ⊎_elim (λ e. b.all item y e c) (λ d. b.kept (pair x y) (a.all item y (take-next points n (suc item) low p d) c)) (cases_eq (suc item) (get_or points n 0));
+    all = λ item y k r c. ⊎_elim (λ p. b.kept (pair (variable_in block k) y) (a.all item y k p c)) (λ q. b.all item y k q c) (split item y k r c);
   }
 
-  pub adds-all : (first last : List Access) (P R : ℕ → Type 0) → ((p : ℕ) → R p → P p) → AddsPairs F x P first last → AddsPairs F x R first last
-  adds-all first last P R more a = record { kept = a.kept; only = a.only; all = λ item y p c. a.all item y (more (suc item) p) c }
+  -- the same of others, whose pairs were there
+  pub adds-as : (old new : List Access) (P R : ℕ → ℕ → Type 0) → AddsPairs F block P old new
+      → ((item y k : ℕ) → R k (suc item) → Clashes F.code item y (variable_in block k) → P k (suc item) ⊎ Contains old (pair (variable_in block k) y)) → AddsPairs F block R old new
+  adds-as old new P R a split = record {
+    kept = a.kept;
+    only = a.only;
+    all = λ item y k r c. ⊎_elim (λ p. a.all item y k p c) (λ h. a.kept (pair (variable_in block k) y) h) (split item y k r c);
+  }
+
+pub take-next : (xs : List ℕ) (n place : ℕ) → n < length xs → Contains (take (n + 1) xs) place → Contains (take n xs) place ⊎ (place ≡ get_or xs n 0)
+take-next xs n place low c = ⊎_elim inl (λ e. inr (sym e)) (Contains-push_cases (take n xs) (get_or xs n 0) place (subst (λ l. Contains l place) (take-suc xs n 0 low) (subst (λ m. Contains (take m xs) place) (let h : n + 1 ≡ suc n = omega arith in h) c)))
 
 -- ---- the pairs of the variables below a number
 
@@ -107,12 +120,20 @@ module _ (F : Func) where
       nothing : (a : Access) → Contains [] a → ⊥
       nothing a i = let l = i.1 in omega arith
 
-  pub more-found : (x : ℕ) (list more : List Access) → AreFoundBelow F x list → AddsPairs F x (IsLive F.code (Variable x)) list more → AreFoundBelow F (x + 1) more
-  more-found x list more a b = record {
-    all = λ item y z low c. ⊎_elim (λ e. subst (λ v. Contains more (pair v y)) (sym e) (b.all item y (subst (λ v. IsLive F.code (Variable v) (suc item)) e c.live) (subst (Clashes F.code item y) e c)))
-        (λ d. b.kept (pair z y) (a.all item y z (⊎_elim (λ l. l) (λ high. absurd (d (omega arith))) (cases_lt z x)) c)) (cases_eq z x);
+  -- and those of a block
+  pub more-found : (block : ℕ) (list more : List Access) → AreFoundBelow F (64 * block) list
+      → AddsPairs F block (λ k p. (k < 64) × IsLive F.code (Variable (variable_in block k)) p) list more → AreFoundBelow F (64 * (block + 1)) more
+  more-found block list more a b = record {
+    all = λ item y z low c. ⊎_elim (λ less. b.kept (pair z y) (a.all item y z less c)) (λ past. here item y z past low c) (cases_lt z (64 * block));
     only = λ c i. ⊎_elim (λ h. a.only c h) (λ h. h) (b.only c i);
   }
+    where
+      here : (item y z : ℕ) → 64 * block ≤ z → z < 64 * (block + 1) → Clashes F.code item y z → Contains more (pair z y)
+      here item y z past low c =
+          let k = z - 64 * block in
+          let is : z ≡ variable_in block k = omega (arith, past) in
+          let few : k < 64 = omega (arith, past, low) in
+          subst (λ v. Contains more (pair v y)) (sym is) (b.all item y k (few, subst (λ v. IsLive F.code (Variable v) (suc item)) is c.live) (subst (Clashes F.code item y) is c))
 
   pub all-found : (x : ℕ) (list : List Access) → length F.vars ≤ x → AreFoundBelow F x list → ArePairs F list
   all-found x list long a larger smaller = (a.only (record { item = smaller; location = larger }), there)
@@ -126,10 +147,26 @@ module _ (F : Func) where
           (λ c. subst (Contains list) (pair-above larger smaller (omega (arith, order))) (a.all p.meet.item smaller larger (omega (arith, below)) c))
           p.meet.clash
 
--- ---- stamps
+-- ---- what is there
 
-pub stamps-first : (count : ℕ) (list : List Access) (stamps : List ℕ) → length stamps ≡ count → ((y : ℕ) → slice_index stamps y ≡ 0) → AreStamps count 0 list stamps
-stamps-first count list stamps long none = record { long = long; most = λ y. (let h = none y in omega (arith, h)); there = λ y e. absurd (let h = none y in omega (arith, h, e)) }
+module _ (count : ℕ) (list : List Access) (blocks words : List ℕ) where
+  pub done-none : length blocks ≡ count → length words ≡ count → ((y : ℕ) → slice_index blocks y ≡ 0) → AreDone count list blocks words
+  done-none long words-long none = record { long = long; words_long = words-long; there = λ y block k e h. absurd (let z = none y in omega (arith, z, e)) }
 
-pub stamps-next : (count x : ℕ) (list : List Access) (stamps : List ℕ) → AreStamps count x list stamps → AreStamps count (x + 1) list stamps
-stamps-next count x list stamps s = record { long = s.long; most = λ y. (let h = s.most y in omega (arith, h)); there = λ y e. absurd (let h = s.most y in omega (arith, h, e)) }
+  -- another word of y, whose bits are variables of the block whose pairs with it are there
+  pub done-put : (more : List Access) (block number y word : ℕ) → AreDone count list blocks words → number ≡ suc block → y < count → ((a : Access) → Contains list a → Contains more a)
+      → ((k : ℕ) → has_bit word k ≡ true → Contains more (pair (variable_in block k) y)) → AreDone count more (set blocks y number) (set words y word)
+  done-put more block number y word d is low kept bits = record {
+    long = length-set blocks y number ∙ d.long;
+    words_long = length-set words y word ∙ d.words_long;
+    there = λ z other k e h. ⊎_elim (λ same. here z other k same e h) (λ ne. kept (pair (variable_in other k) z) (d.there z other k (sym (get_or-set_other blocks y z number 0 ne) ∙ e) (subst (λ w. has_bit w k ≡ true) (get_or-set_other words y z word 0 ne) h))) (cases_eq z y);
+  }
+    where
+      here : (z other k : ℕ) → z ≡ y → slice_index (set blocks y number) z ≡ suc other → has_bit (slice_index (set words y word) z) k ≡ true → Contains more (pair (variable_in other k) z)
+      here z other k same e h =
+          let inside : y < length blocks = (let l = d.long in omega (arith, l, low)) in
+          let words-inside : y < length words = (let l = d.words_long in omega (arith, l, low)) in
+          let number-there : slice_index (set blocks y number) z ≡ number = ap (slice_index (set blocks y number)) same ∙ get_or-set_same blocks y number 0 inside in
+          let block-is : block ≡ other = omega (arith, number-there, e, is) in
+          let word-there : slice_index (set words y word) z ≡ word = ap (slice_index (set words y word)) same ∙ get_or-set_same words y word 0 words-inside in
+          subst (λ b. Contains more (pair (variable_in b k) z)) block-is (subst (λ v. Contains more (pair (variable_in block k) v)) (sym same) (bits k (subst (λ w. has_bit w k ≡ true) word-there h)))

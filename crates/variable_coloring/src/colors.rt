@@ -201,9 +201,9 @@ impl Colors {
 }
 
 // The classes of a function's variables, as large as can be: for each variable the one that names its class. Takes time in
-// proportion to the items, to the pairs of a variable and a point where it is live, and to the pairs of variables that meet, and
-// memory in proportion to the items and the latter. A function with 2^32 variables or more, or 2^32 - 1 of these pairs, is taken
-// to need more memory than there is.
+// proportion to the items, to the pairs of a block of 64 variables and a point where one of them is live, most of which are looked
+// at a few times and none more than 64 times, and to the pairs of variables that meet, and memory in proportion to the items and the
+// latter. A function with 2^32 variables or more, or 2^32 - 1 of these pairs, is taken to need more memory than there is.
 pub(crate) fn colors_in(alloc: Global, func: &Func, graph: &Graph) -> Result<Vec<u32>, AllocError>
     requires shaped { shape_fault_of (is_some func.now.ret) func.now.code ≡ None }
     requires few { length func.now.code < 2 ^ 32 - 1 }

@@ -8,17 +8,24 @@
 //!    variable is stamped (`src/classes.rt`, `proofs/Stamping.antt`), what a variable may be put into is apart from it and what
 //!    not isn't (`proofs/Fitting.antt`, `proofs/Joining.antt`), and heads of classes stand in rows by their types
 //!    (`src/rows.rt`, `proofs/Heads.antt`).
-//! 2. What it makes (`specs/Color.antt`), and the pass (`src/color.rt`). That it keeps what a pass owes follows from
+//! 2. Where variables are live, for blocks of 64 at once (`specs/LiveWords.antt`): the reads of a function and the arcs back along
+//!    its edges (`src/live_flow.rt`, `src/arcs.rt`, `src/windows.rt`, `proofs/LiveArcs.antt`, `proofs/Seeding.antt`), the searches of
+//!    a block, and the points at which some variable of it is live (`src/live_words.rt`, `proofs/Finding.antt`).
+//! 3. What it makes (`specs/Color.antt`), and the pass (`src/color.rt`). That it keeps what a pass owes follows from
 //!    `variable_renaming`, since such classes are sound (`proofs/Made.antt`).
 #![tactic(auto)]
 
+mod arcs;
 mod classes;
 mod color;
 mod colors;
 mod copies;
 mod dests;
+mod live_flow;
+mod live_words;
 mod pairs;
 mod rows;
 mod softs;
+mod windows;
 
 pub use color::{Color, ColorEdit};

@@ -79,14 +79,24 @@ impl Softs {
         })
     }
 
-    // Adds the pairs of x, which is live at these points.
-    pub(crate) fn add(&mut self, alloc: Global, x: u32, points: &[u32]) -> Result<(), AllocError> {
+    // Adds the pairs of the variables of a block whose bits are set, which are live at the point.
+    pub(crate) fn add(
+        &mut self,
+        alloc: Global,
+        block: u32,
+        word: u64,
+        point: u32,
+    ) -> Result<(), AllocError> {
         if self.outs.list().is_empty() {
             return Ok(());
         }
-        for point in points {
-            if self.list.len() < self.most {
-                let variables = self.outs.items(alloc, *point)?;
+        let variables = self.outs.items(alloc, point)?;
+        if variables.is_empty() {
+            return Ok(());
+        }
+        for k in 0..64u32 {
+            if (word >> k) & 1 == 1 && self.list.len() < self.most {
+                let x = block.saturating_mul(64).saturating_add(k);
                 push_pairs(&mut self.list, x, variables.as_slice())?;
             }
         }
