@@ -2,7 +2,9 @@ pub mod Fitting
 pub mod Heads
 pub mod Joining
 pub mod Made
+pub mod Marks
 pub mod Pairing
 pub mod Placing
 pub mod Shipped
 pub mod Stamping
+pub mod Waiting

@@ -1,4 +1,5 @@
 pub mod Color
 pub mod Colors
 pub mod Growing
+pub mod Late
 pub mod Pairs

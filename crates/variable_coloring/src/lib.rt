@@ -17,8 +17,10 @@ mod color;
 mod colors;
 mod copies;
 mod dests;
+mod late;
 mod pairs;
 mod rows;
 mod softs;
+mod wishes;
 
 pub use color::{Color, ColorEdit};
