@@ -12,9 +12,9 @@ use graph_search::is_marked;
 use std::alloc::{AllocError, Global};
 use variable_renaming::{are_of_one_type, class_of, mark, numbers_below, shadowed_variables};
 
-// The class of each variable, by its head, which is one of its variables; which variables are placed, so that they have a class; for
-// each head whether a variable of its class has a shadow that items name; a stamp for each head: turn + 1 where a variable of its
-// class meets the one whose turn it is, for the last turn of any; and what else a choice goes by.
+// The class of each variable, by its head, which is one of its variables; which variables are placed, so that they have a class;
+// for each head whether a variable of its class has a shadow that items name; a stamp for each head: turn + 1 where a variable of
+// its class meets the one whose turn it is, for the last turn of any; and what else a choice goes by.
 #[derive(Drop)]
 pub(crate) struct Classes {
     pub class: Vec<u32>,
@@ -164,8 +164,8 @@ impl Classes {
         (any || !self.is_last_choice(func, x, turn, head)) && self.fits(func, x, turn, head)
     }
 
-    // The place of the first of these numbers that is the head of a class that x may be put into, in its turn; of one that is no last
-    // choice, unless any will do.
+    // The place of the first of these numbers that is the head of a class that x may be put into, in its turn; of one that is no
+    // last choice, unless any will do.
     pub(crate) fn find(
         &self,
         func: &Func,

@@ -101,7 +101,8 @@ impl Colors {
         Ok(())
     }
 
-    // The place, in its row, of a class without a variable whose shadow items name that x may be put into; rather of one that is no last choice.
+    // The place, in its row, of the head of a class that x, whose shadow items name, may be put into, rather of one that is no
+    // last choice.
     fn plain_place(&self, func: &Func, x: u32, turn: u32) -> Option<usize>
         requires few { turn < 2 ^ 32 - 1 }
         requires looking { IsLookingIn func.now x turn self.now }
@@ -172,8 +173,8 @@ impl Colors {
         }
     }
 
-    // Puts x, whose shadow no item names, into a class, rather into that of one of these variables, or into one of its own. Where only
-    // last choices are left, it waits for its second turn.
+    // Puts x, whose shadow no item names, into a class, rather into that of one of these variables, or into one of its own. Where
+    // only last choices are left, it waits for its second turn.
     fn put_plain(
         &mut self,
         func: &Func,

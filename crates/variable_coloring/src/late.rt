@@ -43,8 +43,8 @@ fn rows_of(alloc: Global, pairs: &[Access], placed: &[bool]) -> Result<Vec<Acces
     Ok(list)
 }
 
-// Of the pairs of a function those of variables that aren't placed, each in its row with all that it meets. A function with 2^32 - 1
-// of them or more is taken to need more memory than there is.
+// Of the pairs of a function those of variables that aren't placed, each in its row with all that it meets. A function with
+// 2^32 - 1 of them or more is taken to need more memory than there is.
 pub(crate) fn late_pairs(
     alloc: Global,
     _func: &Func,

@@ -12,8 +12,8 @@ const MANY: usize = 23;
 // The number that stands for a `speculate`, in place of a variable.
 pub(crate) const SITE: u32 = u32::MAX;
 
-// Pairs of variables that had better not share a name, each in the rows of both, and marks of variables: of those that a `speculate`
-// saves, and of those that are live at one.
+// Pairs of variables that had better not share a name, each in the rows of both, and marks of variables: of those that a
+// `speculate` saves, and of those that are live at one.
 #[derive(Drop)]
 pub(crate) struct Gathered {
     pairs: Vec<Access>,
@@ -22,8 +22,8 @@ pub(crate) struct Gathered {
 }
 
 // The same for the choice, by the heads of classes: whether a variable of the class is saved at a `speculate`, and whether another
-// one is live at one, which would be saved too if they had one name; and a stamp: turn + 1 where a variable of the class and the one
-// whose turn it is are a pair.
+// one is live at one, which would be saved too if they had one name; and a stamp: turn + 1 where a variable of the class and the
+// one whose turn it is are a pair.
 #[derive(Drop)]
 pub(crate) struct Wishes {
     pairs: AccessLists,
@@ -133,8 +133,8 @@ impl Wishes {
         are_marked(saved, awake, x, head) || are_marked(saved, awake, head, x)
     }
 
-    // Whether the class is left to x only where no other fits: one that would cost a save; and where variables are many, so that they
-    // compete for registers, that of an argument, which is live from the start.
+    // Whether the class is left to x only where no other fits: one that would cost a save; and where variables are many, so that
+    // they compete for registers, that of an argument, which is live from the start.
     pub(crate) fn is_last_choice(&self, func: &Func, x: u32, turn: u32, head: u32) -> bool {
         if head < func.args && self.stamps.len() > MANY {
             return true;
