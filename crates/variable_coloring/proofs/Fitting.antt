@@ -2,7 +2,7 @@
 use Rattle.std.proofs.Common.{◌≡◌, ℕ, suc, ◌+◌, ◌<◌, ◌≤◌, Bool, true, false, List, length, get_or, take, sym, ap, subst, ◌∙◌, inl, inr, ⊎_elim, arith}
 use Rattle.std.specs.Prelude.{slice_index}
 use Rattle.std.specs.List.{Contains}
-use Rattle.std.proofs.lemmas.Bool.{cases_eq, cases_lt, and_cases}
+use Rattle.std.proofs.lemmas.Bool.{cases_eq, cases_Bool, and_cases}
 use Rattle.std.proofs.lemmas.List.{take_all}
 use Rattle.std.proofs.lemmas.List.Elements.{Contains-push_cases}
 use Rattle.std.proofs.Math.Seq.{take-suc}
@@ -15,8 +15,9 @@ use Rattle.variable_renaming.specs.Apart.{AreApart, HasShadow}
 use Rattle.variable_renaming.specs.Clashes.{Clashes}
 use Rattle.variable_renaming.specs.Classes.{class_of}
 use Rattle.variable_coloring.specs.Colors.{AreKeptApart}
-use Rattle.variable_coloring.specs.Growing.{AreColorsBelow, AreStampsOf, Fits, Misfits, NoneFits, NotBelow, NoHead, OtherType, Met, TwoShadows}
+use Rattle.variable_coloring.specs.Growing.{AreColorsOf, AreStampsOf, Fits, Misfits, NoneFits, NotPlaced, NoHead, OtherType, Met, TwoShadows}
 use Rattle.variable_coloring.specs.Pairs.{Meet}
+use Rattle.variable_coloring.proofs.Marks.{false-true, marked-below, marked-differ}
 
 pub apart-turned : (F : Func) (x y : ℕ) → AreApart F x y → AreApart F y x
 apart-turned F x y a = record { types = sym a.types; arguments = λ h k. a.arguments k h; shadows = λ h k. a.shadows k h; first = a.second; second = a.first }
@@ -31,78 +32,83 @@ clash-kept F item x y c a = a.first.assigned item c.instr c.reached c.at c.dest 
 pub meet-kept : (F : Func) (x y : ℕ) → Meet F.code x y → AreApart F x y → ⊥
 meet-kept F x y m a = ⊎_elim (λ c. clash-kept F m.item x y c a) (λ c. clash-kept F m.item y x c (apart-turned F x y a)) m.clash
 
-false-true : (b : Bool) → b ≡ false → b ≡ true → ⊥
-false-true b e h = let f : false ≡ true = sym e ∙ h in cc
+module _ (F : Func) (placed : List Bool) (class : List ℕ) (shadow : List Bool) (c : AreColorsOf F placed class shadow) where
+  -- a variable of a class of before is placed
+  pub earlier : (y k : ℕ) → is_marked placed k ≡ true → class_of class y ≡ k → is_marked placed y ≡ true
+  earlier y k there e = ⊎_elim (λ m. m) (λ m. absurd (marked-differ placed k y there m (sym e ∙ c.alone y m))) (cases_Bool (is_marked placed y))
 
-module _ (F : Func) (n : ℕ) (class : List ℕ) (shadow : List Bool) (c : AreColorsBelow F n class shadow) where
-  -- the next variable has a shadow where it is marked
-  pub own-shadow : is_marked shadow n ≡ true → HasShadow F.code n
-  own-shadow e =
-      let own = c.alone n (let h : n ≤ n = omega arith in h) in
-      let s = c.unshadowed n own e in
-      let same : s.x ≡ n = (let low = c.lower s.x in let of = s.of in let up : n ≤ s.x = omega (arith, low, of) in sym (c.alone s.x up) ∙ of) in
-      subst (HasShadow F.code) same s.shadow
+  -- the head of a variable of the function is one
+  pub class-inside : (y : ℕ) → y < length F.vars → class_of class y < length F.vars
+  class-inside y low = ⊎_elim
+      (λ m. (let k = marked-below placed (class_of class y) (c.kept y m) in let l = c.placed_long in omega (arith, k, l)))
+      (λ m. (let k = c.alone y m in omega (arith, k, low))) (cases_Bool (is_marked placed y))
 
-  -- a variable of a class of before is one of before
-  pub earlier : (y k : ℕ) → k < n → class_of class y ≡ k → y < n
-  earlier y k low e = ⊎_elim (λ l. l) (λ high. absurd (let a = c.alone y high in omega (arith, a, e, low, high))) (cases_lt y n)
+  module _ (n : ℕ) (waiting : is_marked placed n ≡ false) where
+    -- the variable has a shadow where it is marked
+    pub own-shadow : is_marked shadow n ≡ true → HasShadow F.code n
+    own-shadow e =
+        let s = c.unshadowed n (c.alone n waiting) e in
+        let same : s.x ≡ n = ⊎_elim (λ m. absurd (marked-differ placed (class_of class s.x) n (c.kept s.x m) waiting s.of)) (λ m. sym (c.alone s.x m) ∙ s.of) (cases_Bool (is_marked placed s.x)) in
+        subst (HasShadow F.code) same s.shadow
 
-  module _ (stamps : List ℕ) (s : AreStampsOf F n class stamps) (low : n < length F.vars) (started : (y : ℕ) → IsLive F.code (Variable y) 0 → y < F.args) (behind : F.args ≤ n) where
-    module _ (k : ℕ) (fits : Fits F class shadow stamps n k) (y : ℕ) (of : class_of class y ≡ k) where
-      here : y < n
-      here = earlier y k fits.below of
+    module _ (turn : ℕ) (stamps : List ℕ) (s : AreStampsOf F n turn placed class stamps) (low : n < length F.vars) (started : (y : ℕ) → IsLive F.code (Variable y) 0 → y < F.args) (behind : F.args ≤ n) where
+      module _ (k : ℕ) (fits : Fits F placed class shadow stamps n turn k) (y : ℕ) (of : class_of class y ≡ k) where
+        here : is_marked placed y ≡ true
+        here = earlier y k fits.placed_head of
 
-      -- they don't meet
-      unmet : Meet F.code n y → ⊥
-      unmet m = fits.unmet (ap (slice_index stamps) (sym of) ∙ s.all y (record { order = here; below = low; meet = m }))
+        inside : y < length F.vars
+        inside = let h = marked-below placed y here in let l = c.placed_long in omega (arith, h, l)
 
-      head-type : variable_type F.vars k ≡ variable_type F.vars y
-      head-type = ⊎_elim (λ e. ap (variable_type F.vars) e) (λ d. let a = c.apart k y d (fits.is_head ∙ sym of) in a.types) (cases_eq k y)
+        differ : n ≡ y → ⊥
+        differ e = marked-differ placed y n here waiting (sym e)
 
-      two-shadows : HasShadow F.code n → HasShadow F.code y → ⊥
-      two-shadows a b =
-          let own = c.alone n (let h : n ≤ n = omega arith in h) in
-          let x-marked : is_marked shadow n ≡ true = ap (is_marked shadow) (sym own) ∙ c.shadowed n low a in
-          let k-marked : is_marked shadow k ≡ true = ap (is_marked shadow) (sym of) ∙ c.shadowed y (let h = here in omega (arith, h, low)) b in
-          ⊎_elim (λ e. false-true (is_marked shadow n) e x-marked) (λ e. false-true (is_marked shadow k) e k-marked) (and_cases (is_marked shadow n) (is_marked shadow k) fits.shadows)
+        -- they don't meet
+        unmet : Meet F.code n y → ⊥
+        unmet m = fits.unmet (ap (slice_index stamps) (sym of) ∙ s.all y here (record { differ = differ; below = inside; meet = m }))
 
-      -- it is apart from each variable of a class that it may be put into
-      pub fits-apart : AreApart F n y
-      fits-apart = record {
-        types = fits.types ∙ head-type;
-        arguments = λ first second. omega (arith, first, behind);
-        shadows = two-shadows;
-        first = record {
-          assigned = λ point item reached at dest other live. unmet (record { item = point; clash = inl (record { reached = reached; instr = item; at = at; dest = dest; differ = differ; other = other; live = live }) });
-          start = λ first live. omega (arith, first, behind);
-        };
-        second = record {
-          assigned = λ point item reached at dest other live. unmet (record { item = point; clash = inr (record { reached = reached; instr = item; at = at; dest = dest; differ = λ e. differ (sym e); other = other; live = live }) });
-          start = λ first live. (let h = started n live in omega (arith, h, behind));
-        };
-      }
-        where
-          differ : n ≡ y → ⊥
-          differ e = let h = here in omega (arith, h, e)
+        head-type : variable_type F.vars k ≡ variable_type F.vars y
+        head-type = ⊎_elim (λ e. ap (variable_type F.vars) e) (λ d. let a = c.apart k y d (fits.is_head ∙ sym of) in a.types) (cases_eq k y)
 
-    -- and why it may not be put into another one keeps it apart from that
-    pub misfits-kept : (h : ℕ) → h < n → class_of class h ≡ h → Misfits F class shadow stamps n h → AreKeptApart F class h n
-    misfits-kept h below head (NotBelow high) = absurd (omega (arith, below, high))
-    misfits-kept h below head (NoHead d) = absurd (d head)
-    misfits-kept h below head (OtherType d) = record { u = h; v = n; first_below = omega (arith, below, low); second_below = low; first = head; second = c.alone n (let e : n ≤ n = omega arith in e); meet = λ a. d (sym a.types) }
-    misfits-kept h below head (Met e) =
-        let m = s.only h e in
-        record { u = m.y; v = n; first_below = (let o = m.pair.order in omega (arith, o, low)); second_below = low; first = m.of; second = c.alone n (let g : n ≤ n = omega arith in g); meet = λ a. meet-kept F n m.y m.pair.meet (apart-turned F m.y n a) }
-    misfits-kept h below head (TwoShadows first second) =
-        let t = c.unshadowed h head second in
-        record { u = t.x; v = n; first_below = t.below; second_below = low; first = t.of; second = c.alone n (let g : n ≤ n = omega arith in g); meet = λ a. a.shadows t.shadow (own-shadow first) }
+        two-shadows : HasShadow F.code n → HasShadow F.code y → ⊥
+        two-shadows a b =
+            let x-marked : is_marked shadow n ≡ true = ap (is_marked shadow) (sym (c.alone n waiting)) ∙ c.shadowed n low a in
+            let k-marked : is_marked shadow k ≡ true = ap (is_marked shadow) (sym of) ∙ c.shadowed y inside b in
+            ⊎_elim (λ e. false-true (is_marked shadow n) e x-marked) (λ e. false-true (is_marked shadow k) e k-marked) (and_cases (is_marked shadow n) (is_marked shadow k) fits.shadows)
+
+        -- it is apart from each variable of a class that it may be put into
+        pub fits-apart : AreApart F n y
+        fits-apart = record {
+          types = fits.types ∙ head-type;
+          arguments = λ first second. omega (arith, first, behind);
+          shadows = two-shadows;
+          first = record {
+            assigned = λ point item reached at dest other live. unmet (record { item = point; clash = inl (record { reached = reached; instr = item; at = at; dest = dest; differ = differ; other = other; live = live }) });
+            start = λ first live. omega (arith, first, behind);
+          };
+          second = record {
+            assigned = λ point item reached at dest other live. unmet (record { item = point; clash = inr (record { reached = reached; instr = item; at = at; dest = dest; differ = λ e. differ (sym e); other = other; live = live }) });
+            start = λ first live. (let h = started n live in omega (arith, h, behind));
+          };
+        }
+
+      -- and why it may not be put into another one keeps it apart from that
+      pub misfits-kept : (h : ℕ) → is_marked placed h ≡ true → class_of class h ≡ h → Misfits F placed class shadow stamps n turn h → AreKeptApart F class h n
+      misfits-kept h there head (NotPlaced d) = absurd (false-true (is_marked placed h) d there)
+      misfits-kept h there head (NoHead d) = absurd (d head)
+      misfits-kept h there head (OtherType d) = record { u = h; v = n; first_below = (let m = marked-below placed h there in let l = c.placed_long in omega (arith, m, l)); second_below = low; first = head; second = c.alone n waiting; meet = λ a. d (sym a.types) }
+      misfits-kept h there head (Met e) =
+          let m = s.only h e in
+          record { u = m.y; v = n; first_below = m.meeting.below; second_below = low; first = m.of; second = c.alone n waiting; meet = λ a. meet-kept F n m.y m.meeting.meet (apart-turned F m.y n a) }
+      misfits-kept h there head (TwoShadows first second) =
+          let t = c.unshadowed h head second in
+          record { u = t.x; v = n; first_below = t.below; second_below = low; first = t.of; second = c.alone n waiting; meet = λ a. a.shadows t.shadow (own-shadow first) }
 
 -- ---- none of some numbers
 
-module _ (F : Func) (class : List ℕ) (shadow : List Bool) (stamps : List ℕ) (x : ℕ) (heads : List ℕ) where
-  pub none-more : (n : ℕ) → n < length heads → Misfits F class shadow stamps x (get_or heads n 0) → NoneFits F class shadow stamps x (take n heads) → NoneFits F class shadow stamps x (take (n + 1) heads)
-  none-more n low m none h c = ⊎_elim (none h) (λ e. subst (Misfits F class shadow stamps x) e m)
+module _ (F : Func) (placed : List Bool) (class : List ℕ) (shadow : List Bool) (stamps : List ℕ) (x turn : ℕ) (heads : List ℕ) where
+  pub none-more : (n : ℕ) → n < length heads → Misfits F placed class shadow stamps x turn (get_or heads n 0) → NoneFits F placed class shadow stamps x turn (take n heads) → NoneFits F placed class shadow stamps x turn (take (n + 1) heads)
+  none-more n low m none h c = ⊎_elim (none h) (λ e. subst (Misfits F placed class shadow stamps x turn) e m)
       (Contains-push_cases (take n heads) (get_or heads n 0) h (subst (λ l. Contains l h) (ap (λ k. take k heads) (let e : n + 1 ≡ suc n = omega arith in e) ∙ take-suc heads n 0 low) c))
 
-  pub none-all : (n : ℕ) → length heads ≤ n → NoneFits F class shadow stamps x (take n heads) → NoneFits F class shadow stamps x heads
-  none-all n over none = subst (NoneFits F class shadow stamps x) (take_all n heads over) none
+  pub none-all : (n : ℕ) → length heads ≤ n → NoneFits F placed class shadow stamps x turn (take n heads) → NoneFits F placed class shadow stamps x turn heads
+  none-all n over none = subst (NoneFits F placed class shadow stamps x turn) (take_all n heads over) none

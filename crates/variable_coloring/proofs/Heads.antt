@@ -1,5 +1,5 @@
 -- Heads of classes, in rows by their types.
-use Rattle.std.proofs.Common.{◌≡◌, ℕ, suc, ◌-◌, ◌<◌, Bool, true, false, cond, List, [], ◌∷◌, ◌++◌, length, map, get_or, set, take, sym, ap, subst, ◌∙◌, ⊎_elim, arith}
+use Rattle.std.proofs.Common.{◌≡◌, ℕ, ◌-◌, ◌<◌, Bool, true, false, cond, List, [], ◌∷◌, ◌++◌, length, map, get_or, set, take, sym, ap, subst, ◌∙◌, ⊎_elim, arith}
 use Rattle.std.specs.Prelude.{slice_index}
 use Rattle.std.specs.List.{Contains, swap_remove}
 use Rattle.std.proofs.lemmas.Bool.{cases_eq, cases_lt, cases_Bool}
@@ -8,7 +8,8 @@ use Rattle.std.proofs.lemmas.List.Elements.{Contains-append_left, Contains-push}
 use Rattle.bril_tree.specs.declared.numbered_function.Func.{Func}
 use Rattle.graph_search.specs.Marks.{is_marked}
 use Rattle.variable_renaming.specs.Classes.{class_of}
-use Rattle.variable_coloring.specs.Growing.{AreHeads, Misfits, OtherType, TwoShadows, NoneFits, NoneFitsBelow, row_at, row_of, shadows_joined, type_row, with_number}
+use Rattle.variable_coloring.proofs.Marks.{false-true, marked-before, marked-differ}
+use Rattle.variable_coloring.specs.Growing.{AreHeads, Misfits, OtherType, TwoShadows, NoneFits, NoneFitsAtAll, row_at, row_of, shadows_joined, type_row, with_number}
 
 -- ---- rows
 
@@ -75,72 +76,72 @@ taken-kept rows row place v r m low inside c d = ⊎_elim
 
 -- ---- heads
 
-module _ (F : Func) (n : ℕ) (class : List ℕ) (shadow : List Bool) (shadowed plain : List (List ℕ)) (a : AreHeads F n class shadow shadowed plain) where
-  -- the last of these
-  below-next : (h : ℕ) → h < suc n → (h ≡ n → ⊥) → h < n
-  below-next h low d = ⊎_elim (λ l. l) (λ high. absurd (d (omega (arith, low, high)))) (cases_lt h n)
+-- the same of equal lists
+pub heads-same : (F : Func) (placed placed' : List Bool) (class class' : List ℕ) (shadow shadow' : List Bool) (shadowed plain : List (List ℕ)) → placed' ≡ placed → class' ≡ class → shadow' ≡ shadow → AreHeads F placed class shadow shadowed plain → AreHeads F placed' class' shadow' shadowed plain
+heads-same F placed placed' class class' shadow shadow' shadowed plain e a b h = subst (λ z. AreHeads F z class' shadow' shadowed plain) (sym e) (subst (λ z. AreHeads F placed z shadow' shadowed plain) (sym a) (subst (λ z. AreHeads F placed class z shadowed plain) (sym b) h))
 
+module _ (F : Func) (n : ℕ) (placed : List Bool) (class : List ℕ) (shadow : List Bool) (shadowed plain : List (List ℕ)) (a : AreHeads F placed class shadow shadowed plain) where
   module _ (few : row_of F n < 100) where
-    pub opened-shadowed : (new : List (List ℕ)) → is_marked shadow n ≡ true → new ≡ with_number shadowed (row_of F n) n → AreHeads F (suc n) class shadow new plain
-    opened-shadowed new marked e = subst (λ l. AreHeads F (suc n) class shadow l plain) (sym e) (record {
+    pub opened-shadowed : (new : List (List ℕ)) → is_marked shadow n ≡ true → new ≡ with_number shadowed (row_of F n) n → AreHeads F (set placed n true) class shadow new plain
+    opened-shadowed new marked e = subst (λ l. AreHeads F (set placed n true) class shadow l plain) (sym e) (record {
       shadowed_long = length-set shadowed (row_of F n) (row_at shadowed (row_of F n) ++ n ∷ []) ∙ a.shadowed_long;
       plain_long = a.plain_long;
-      in_shadowed = λ h low head m. ⊎_elim
+      in_shadowed = λ h there head m. ⊎_elim
           (λ s. subst (λ v. Contains (row_at (with_number shadowed (row_of F n) n) (row_of F v)) v) (sym s) (pushed-there shadowed (row_of F n) n fits))
-          (λ d. pushed-kept shadowed (row_of F n) n (row_of F h) h fits (a.in_shadowed h (below-next h low d) head m)) (cases_eq h n);
-      in_plain = λ h low head m. ⊎_elim (λ s. absurd (let f : true ≡ false = sym marked ∙ ap (is_marked shadow) (sym s) ∙ m in cc)) (λ d. a.in_plain h (below-next h low d) head m) (cases_eq h n);
+          (λ d. pushed-kept shadowed (row_of F n) n (row_of F h) h fits (a.in_shadowed h (marked-before placed n h there d) head m)) (cases_eq h n);
+      in_plain = λ h there head m. ⊎_elim (λ s. absurd (false-true (is_marked shadow n) (ap (is_marked shadow) (sym s) ∙ m) marked)) (λ d. a.in_plain h (marked-before placed n h there d) head m) (cases_eq h n);
     })
       where
         fits : row_of F n < length shadowed
         fits = let l = a.shadowed_long in omega (arith, l, few)
 
-    pub opened-plain : (new : List (List ℕ)) → is_marked shadow n ≡ false → new ≡ with_number plain (row_of F n) n → AreHeads F (suc n) class shadow shadowed new
-    opened-plain new marked e = subst (AreHeads F (suc n) class shadow shadowed) (sym e) (record {
+    pub opened-plain : (new : List (List ℕ)) → is_marked shadow n ≡ false → new ≡ with_number plain (row_of F n) n → AreHeads F (set placed n true) class shadow shadowed new
+    opened-plain new marked e = subst (AreHeads F (set placed n true) class shadow shadowed) (sym e) (record {
       shadowed_long = a.shadowed_long;
       plain_long = length-set plain (row_of F n) (row_at plain (row_of F n) ++ n ∷ []) ∙ a.plain_long;
-      in_shadowed = λ h low head m. ⊎_elim (λ s. absurd (let f : true ≡ false = sym m ∙ ap (is_marked shadow) s ∙ marked in cc)) (λ d. a.in_shadowed h (below-next h low d) head m) (cases_eq h n);
-      in_plain = λ h low head m. ⊎_elim
+      in_shadowed = λ h there head m. ⊎_elim (λ s. absurd (false-true (is_marked shadow n) marked (ap (is_marked shadow) (sym s) ∙ m))) (λ d. a.in_shadowed h (marked-before placed n h there d) head m) (cases_eq h n);
+      in_plain = λ h there head m. ⊎_elim
           (λ s. subst (λ v. Contains (row_at (with_number plain (row_of F n) n) (row_of F v)) v) (sym s) (pushed-there plain (row_of F n) n fits))
-          (λ d. pushed-kept plain (row_of F n) n (row_of F h) h fits (a.in_plain h (below-next h low d) head m)) (cases_eq h n);
+          (λ d. pushed-kept plain (row_of F n) n (row_of F h) h fits (a.in_plain h (marked-before placed n h there d) head m)) (cases_eq h n);
     })
       where
         fits : row_of F n < length plain
         fits = let l = a.plain_long in omega (arith, l, few)
 
-  module _ (k : ℕ) (below : k < n) (inside : n < length class) where
+  module _ (k : ℕ) (there : is_marked placed k ≡ true) (waiting : is_marked placed n ≡ false) (inside : n < length class) where
     other-class : (z : ℕ) → (z ≡ n → ⊥) → class_of (set class n k) z ≡ class_of class z
     other-class z d = get_or-set_other class n z k z d
 
-    -- the next one is no head
+    -- x is no head
     no-head : class_of (set class n k) n ≡ n → ⊥
-    no-head e = let h = get_or-set_same class n k n inside in omega (arith, e, h, below)
+    no-head e = marked-differ placed k n there waiting (sym (get_or-set_same class n k n inside) ∙ e)
 
-    earlier-head : (h : ℕ) → h < suc n → class_of (set class n k) h ≡ h → (h < n) × (class_of class h ≡ h)
-    earlier-head h low e = (below-next h low differs, sym (other-class h differs) ∙ e)
+    earlier-head : (h : ℕ) → is_marked (set placed n true) h ≡ true → class_of (set class n k) h ≡ h → (is_marked placed h ≡ true) × (class_of class h ≡ h)
+    earlier-head h is e = (marked-before placed n h is differs, sym (other-class h differs) ∙ e)
       where
         differs : h ≡ n → ⊥
         differs s = no-head (subst (λ v. class_of (set class n k) v ≡ v) s e)
 
     -- x without a mark joins the class k
-    pub joined-plain : is_marked shadow n ≡ false → AreHeads F (suc n) (set class n k) (shadows_joined shadow n k) shadowed plain
-    joined-plain plain_n = subst (λ l. AreHeads F (suc n) (set class n k) l shadowed plain) (sym (ap (λ b. cond b (set shadow k true) shadow) plain_n)) (record {
+    pub joined-plain : is_marked shadow n ≡ false → AreHeads F (set placed n true) (set class n k) (shadows_joined shadow n k) shadowed plain
+    joined-plain plain_n = subst (λ l. AreHeads F (set placed n true) (set class n k) l shadowed plain) (sym (ap (λ b. cond b (set shadow k true) shadow) plain_n)) (record {
       shadowed_long = a.shadowed_long;
       plain_long = a.plain_long;
-      in_shadowed = λ h low head m. (let e = earlier-head h low head in a.in_shadowed h e.0 e.1 m);
-      in_plain = λ h low head m. (let e = earlier-head h low head in a.in_plain h e.0 e.1 m);
+      in_shadowed = λ h is head m. (let e = earlier-head h is head in a.in_shadowed h e.0 e.1 m);
+      in_plain = λ h is head m. (let e = earlier-head h is head in a.in_plain h e.0 e.1 m);
     })
 
     -- x with a mark joins the class k, whose head goes to the other rows
     pub joined-shadowed : (row place taken : ℕ) → row ≡ row_of F k → row < 100 → place < length (row_at plain row) → k ≡ slice_index (row_at plain row) place → k < length shadow → is_marked shadow n ≡ true
-        → AreHeads F (suc n) (set class n k) (shadows_joined shadow n k) (with_number shadowed row k) (set plain row (swap_remove (row_at plain row) place taken))
-    joined-shadowed row place taken own few low is long marked = subst (λ l. AreHeads F (suc n) (set class n k) l (with_number shadowed row k) (set plain row (swap_remove (row_at plain row) place taken))) (sym (ap (λ b. cond b (set shadow k true) shadow) marked)) (record {
+        → AreHeads F (set placed n true) (set class n k) (shadows_joined shadow n k) (with_number shadowed row k) (set plain row (swap_remove (row_at plain row) place taken))
+    joined-shadowed row place taken own few low is long marked = subst (λ l. AreHeads F (set placed n true) (set class n k) l (with_number shadowed row k) (set plain row (swap_remove (row_at plain row) place taken))) (sym (ap (λ b. cond b (set shadow k true) shadow) marked)) (record {
       shadowed_long = length-set shadowed row (row_at shadowed row ++ k ∷ []) ∙ a.shadowed_long;
       plain_long = length-set plain row (swap_remove (row_at plain row) place taken) ∙ a.plain_long;
-      in_shadowed = λ h less head m. (let e = earlier-head h less head in ⊎_elim
+      in_shadowed = λ h set_h head m. (let e = earlier-head h set_h head in ⊎_elim
           (λ s. subst (λ v. Contains (row_at (with_number shadowed row k) (row_of F v)) v) (sym s) (subst (λ r. Contains (row_at (with_number shadowed row k) r) k) own (pushed-there shadowed row k row-shadowed)))
           (λ d. pushed-kept shadowed row k (row_of F h) h row-shadowed (a.in_shadowed h e.0 e.1 (sym (get_or-set_other shadow k h true false d) ∙ m))) (cases_eq h k));
-      in_plain = λ h less head m. (let e = earlier-head h less head in ⊎_elim
-          (λ s. absurd (let f : true ≡ false = sym (get_or-set_same shadow k true false long) ∙ ap (is_marked (set shadow k true)) (sym s) ∙ m in cc))
+      in_plain = λ h set_h head m. (let e = earlier-head h set_h head in ⊎_elim
+          (λ s. absurd (false-true (is_marked (set shadow k true) k) (ap (is_marked (set shadow k true)) (sym s) ∙ m) (get_or-set_same shadow k true false long)))
           (λ d. taken-kept plain row place taken (row_of F h) h row-plain low (a.in_plain h e.0 e.1 (sym (get_or-set_other shadow k h true false d) ∙ m)) (λ g. d (g ∙ sym is))) (cases_eq h k));
     })
       where
@@ -152,16 +153,16 @@ module _ (F : Func) (n : ℕ) (class : List ℕ) (shadow : List Bool) (shadowed 
 
   -- ---- where none of a row fits, none of before does
 
-  module _ (stamps : List ℕ) where
-    other-row : (h : ℕ) → (row_of F h ≡ row_of F n → ⊥) → Misfits F class shadow stamps n h
+  module _ (turn : ℕ) (stamps : List ℕ) where
+    other-row : (h : ℕ) → (row_of F h ≡ row_of F n → ⊥) → Misfits F placed class shadow stamps n turn h
     other-row h d = OtherType (λ e. d (ap type_row (sym e)))
 
-    pub none-shadowed : is_marked shadow n ≡ true → NoneFits F class shadow stamps n (row_at plain (row_of F n)) → NoneFitsBelow F class shadow stamps n
-    none-shadowed marked none h low head = ⊎_elim
-        (λ e. ⊎_elim (λ m. TwoShadows marked m) (λ m. none h (subst (λ r. Contains (row_at plain r) h) e (a.in_plain h low head m))) (cases_Bool (is_marked shadow h)))
+    pub none-shadowed : is_marked shadow n ≡ true → NoneFits F placed class shadow stamps n turn (row_at plain (row_of F n)) → NoneFitsAtAll F placed class shadow stamps n turn
+    none-shadowed marked none h there head = ⊎_elim
+        (λ e. ⊎_elim (λ m. TwoShadows marked m) (λ m. none h (subst (λ r. Contains (row_at plain r) h) e (a.in_plain h there head m))) (cases_Bool (is_marked shadow h)))
         (λ d. other-row h d) (cases_eq (row_of F h) (row_of F n))
 
-    pub none-plain : NoneFits F class shadow stamps n (row_at shadowed (row_of F n)) → NoneFits F class shadow stamps n (row_at plain (row_of F n)) → NoneFitsBelow F class shadow stamps n
-    none-plain first second h low head = ⊎_elim
-        (λ e. ⊎_elim (λ m. first h (subst (λ r. Contains (row_at shadowed r) h) e (a.in_shadowed h low head m))) (λ m. second h (subst (λ r. Contains (row_at plain r) h) e (a.in_plain h low head m))) (cases_Bool (is_marked shadow h)))
+    pub none-plain : NoneFits F placed class shadow stamps n turn (row_at shadowed (row_of F n)) → NoneFits F placed class shadow stamps n turn (row_at plain (row_of F n)) → NoneFitsAtAll F placed class shadow stamps n turn
+    none-plain first second h there head = ⊎_elim
+        (λ e. ⊎_elim (λ m. first h (subst (λ r. Contains (row_at shadowed r) h) e (a.in_shadowed h there head m))) (λ m. second h (subst (λ r. Contains (row_at plain r) h) e (a.in_plain h there head m))) (cases_Bool (is_marked shadow h)))
         (λ d. other-row h d) (cases_eq (row_of F h) (row_of F n))

@@ -1,6 +1,6 @@
 -- The next variable is put into a class of before, or begins one of its own.
-use Rattle.std.proofs.Common.{◌≡◌, ◌≢◌, ◌⊎◌, ℕ, suc, ◌<◌, ◌≤◌, Bool, true, false, cond, List, length, set, refl, sym, ap, subst, ◌∙◌, inl, inr, ⊎_elim, arith}
-use Rattle.std.proofs.lemmas.Bool.{cases_eq, cases_lt, cases_Bool, cases_order}
+use Rattle.std.proofs.Common.{◌≡◌, ◌≢◌, ◌⊎◌, ℕ, ◌<◌, ◌≤◌, Bool, true, false, cond, List, length, set, refl, sym, ap, subst, ◌∙◌, inl, inr, ⊎_elim, arith}
+use Rattle.std.proofs.lemmas.Bool.{cases_eq, cases_Bool}
 use Rattle.std.proofs.lemmas.List.{get_or-set_same, get_or-set_other, length-set}
 use Rattle.bril_tree.specs.declared.numbered_function.Func.{Func}
 use Rattle.bril_tree.specs.Live.{IsLive}
@@ -9,50 +9,80 @@ use Rattle.graph_search.specs.Marks.{is_marked}
 use Rattle.variable_renaming.specs.Apart.{AreApart, HasShadow}
 use Rattle.variable_renaming.specs.Classes.{class_of}
 use Rattle.variable_coloring.specs.Colors.{AreColors, AreKeptApart}
-use Rattle.variable_coloring.specs.Growing.{AreColorsBelow, AreStampsOf, Fits, HasShadowIn, NoneFitsBelow, shadows_joined}
-use Rattle.variable_coloring.proofs.Fitting.{apart-turned, fits-apart, kept-turned, misfits-kept, own-shadow}
+use Rattle.variable_coloring.specs.Growing.{AreColorsOf, AreStampsOf, Fits, HasShadowIn, NoneFitsAtAll, shadows_joined}
+use Rattle.variable_coloring.proofs.Fitting.{apart-turned, class-inside, fits-apart, kept-turned, misfits-kept, own-shadow}
+use Rattle.variable_coloring.proofs.Marks.{marked-before, marked-below, marked-differ, marked-here, marked-kept, unmarked-before, unmarked-other}
 
-module _ (F : Func) (n : ℕ) (class : List ℕ) (shadow : List Bool) (c : AreColorsBelow F n class shadow) where
+module _ (F : Func) (n : ℕ) (placed : List Bool) (class : List ℕ) (shadow : List Bool) (c : AreColorsOf F placed class shadow) (waiting : is_marked placed n ≡ false) (low : n < length F.vars) where
+  abbrev with_n : List Bool
+  with_n = set placed n true
+
+  own : class_of class n ≡ n
+  own = c.alone n waiting
+
+  inside-placed : n < length placed
+  inside-placed = let l = c.placed_long in omega (arith, l, low)
+
   -- ---- a class of its own
 
-  pub opened-colors : ((h : ℕ) → h < n → class_of class h ≡ h → AreKeptApart F class h n) → AreColorsBelow F (suc n) class shadow
-  opened-colors kept = record {
+  pub opened-colors : ((h : ℕ) → is_marked placed h ≡ true → class_of class h ≡ h → AreKeptApart F class h n) → AreColorsOf F (set placed n true) class shadow
+  opened-colors separate = record {
     long = c.long;
+    placed_long = length-set placed n true ∙ c.placed_long;
     shadow_long = c.shadow_long;
-    alone = λ x high. c.alone x (omega (arith, high));
-    lower = c.lower;
+    alone = λ x e. c.alone x (unmarked-before placed n inside-placed x e);
+    kept = λ x e. ⊎_elim
+        (λ s. ap (is_marked with_n) (ap (class_of class) s ∙ own) ∙ marked-here placed n inside-placed)
+        (λ d. marked-kept placed n (class_of class x) (c.kept x (marked-before placed n x e d))) (cases_eq x n);
     arguments = c.arguments;
     named = c.named;
     apart = c.apart;
-    settled = λ h m less low first second. ⊎_elim
-        (λ e. subst (AreKeptApart F class h) (sym e) (kept h (omega (arith, e, less)) first))
-        (λ d. c.settled h m less (⊎_elim (λ l. l) (λ high. absurd (d (omega (arith, low, high)))) (cases_lt m n)) first second)
-        (cases_eq m n);
+    settled = settled;
     shadowed = c.shadowed;
     unshadowed = c.unshadowed;
   }
+    where
+      settled : (h m : ℕ) → h ≢ m → is_marked with_n h ≡ true → is_marked with_n m ≡ true → class_of class h ≡ h → class_of class m ≡ m → AreKeptApart F class h m
+      settled h m differ there_h there_m head_h head_m = ⊎_elim
+          (λ s. ⊎_elim (λ t. absurd (differ (s ∙ sym t)))
+          (λ d. subst (λ v. AreKeptApart F class v m) (sym s) (kept-turned F class m n (separate m (marked-before placed n m there_m d) head_m))) (cases_eq m n))
+          (λ e. ⊎_elim (λ t. subst (AreKeptApart F class h) (sym t) (separate h (marked-before placed n h there_h e) head_h))
+          (λ d. c.settled h m differ (marked-before placed n h there_h e) (marked-before placed n m there_m d) head_h head_m) (cases_eq m n))
+          (cases_eq h n)
 
-  module _ (stamps : List ℕ) (s : AreStampsOf F n class stamps) (low : n < length F.vars) (started : (y : ℕ) → IsLive F.code (Variable y) 0 → y < F.args) (behind : F.args ≤ n) where
-    pub opened-fitless : NoneFitsBelow F class shadow stamps n → AreColorsBelow F (suc n) class shadow
-    opened-fitless none = opened-colors (λ h less head. misfits-kept F n class shadow c stamps s low started behind h less head (none h less head))
+  -- an argument, where only arguments are placed
+  pub argument-colors : ((y : ℕ) → is_marked placed y ≡ true → y < n) → n < F.args → AreColorsOf F (set placed n true) class shadow
+  argument-colors only argument = opened-colors (λ h there head. record {
+    u = h;
+    v = n;
+    first_below = (let o = only h there in omega (arith, o, low));
+    second_below = low;
+    first = head;
+    second = own;
+    meet = λ a. a.arguments (let o = only h there in omega (arith, o, argument)) argument;
+  })
+
+  module _ (turn : ℕ) (stamps : List ℕ) (s : AreStampsOf F n turn placed class stamps) (started : (y : ℕ) → IsLive F.code (Variable y) 0 → y < F.args) (behind : F.args ≤ n) where
+    pub opened-fitless : NoneFitsAtAll F placed class shadow stamps n turn → AreColorsOf F (set placed n true) class shadow
+    opened-fitless none = opened-colors (λ h there head. misfits-kept F placed class shadow c n waiting turn stamps s low started behind h there head (none h there head))
 
     -- ---- a class of before
 
-    module _ (k : ℕ) (fits : Fits F class shadow stamps n k) where
+    module _ (k : ℕ) (fits : Fits F placed class shadow stamps n turn k) where
       abbrev new : List ℕ
       new = set class n k
 
       abbrev marks : List Bool
       marks = shadows_joined shadow n k
 
-      below : k < n
-      below = fits.below
+      there : is_marked placed k ≡ true
+      there = fits.placed_head
+
+      below : k < length F.vars
+      below = let m = marked-below placed k there in let l = c.placed_long in omega (arith, m, l)
 
       inside : n < length class
       inside = let l = c.long in omega (arith, low, l)
-
-      own : class_of class n ≡ n
-      own = c.alone n (let h : n ≤ n = omega arith in h)
 
       here : class_of new n ≡ k
       here = get_or-set_same class n k n inside
@@ -60,15 +90,19 @@ module _ (F : Func) (n : ℕ) (class : List ℕ) (shadow : List Bool) (c : AreCo
       other : (z : ℕ) → (z ≡ n → ⊥) → class_of new z ≡ class_of class z
       other z d = get_or-set_other class n z k z d
 
+      -- what is placed is another one
+      placed-other : (z : ℕ) → is_marked placed z ≡ true → z ≡ n → ⊥
+      placed-other z e same = marked-differ placed z n e waiting same
+
       -- a head of the new classes is one of the old ones
       head-before : (h : ℕ) → class_of new h ≡ h → (h ≡ n → ⊥) × (class_of class h ≡ h)
       head-before h e = (differs, sym (other h differs) ∙ e)
         where
           differs : h ≡ n → ⊥
-          differs same = let b = below in let f = ap (class_of new) same in let g = here in omega (arith, b, e, same, f, g)
+          differs same = placed-other k there (sym here ∙ ap (class_of new) (sym same) ∙ e ∙ same)
 
       apart-x : (y : ℕ) → class_of class y ≡ k → AreApart F n y
-      apart-x y of = fits-apart F n class shadow c stamps s low started behind k fits y of
+      apart-x y of = fits-apart F placed class shadow c n waiting turn stamps s low started behind k fits y of
 
       new-apart : (x y : ℕ) → x ≢ y → class_of new x ≡ class_of new y → AreApart F x y
       new-apart x y d e = ⊎_elim first (λ m. ⊎_elim (second m) (neither m) (cases_eq y n)) (cases_eq x n)
@@ -84,14 +118,14 @@ module _ (F : Func) (n : ℕ) (class : List ℕ) (shadow : List Bool) (c : AreCo
           neither : (x ≡ n → ⊥) → (y ≡ n → ⊥) → AreApart F x y
           neither m l = c.apart x y d (sym (other x m) ∙ e ∙ other y l)
 
-      new-kept : (h m : ℕ) → h < n → m < n → AreKeptApart F class h m → AreKeptApart F new h m
+      new-kept : (h m : ℕ) → (h ≡ n → ⊥) → (m ≡ n → ⊥) → AreKeptApart F class h m → AreKeptApart F new h m
       new-kept h m first second a = record {
         u = a.u;
         v = a.v;
         first_below = a.first_below;
         second_below = a.second_below;
-        first = other a.u (λ e. (let f = a.first in let g = ap (class_of class) e in let o = own in omega (arith, f, g, o, first))) ∙ a.first;
-        second = other a.v (λ e. (let f = a.second in let g = ap (class_of class) e in let o = own in omega (arith, f, g, o, second))) ∙ a.second;
+        first = other a.u (λ e. first (sym a.first ∙ ap (class_of class) e ∙ own)) ∙ a.first;
+        second = other a.v (λ e. second (sym a.second ∙ ap (class_of class) e ∙ own)) ∙ a.second;
         meet = a.meet;
       }
 
@@ -101,10 +135,10 @@ module _ (F : Func) (n : ℕ) (class : List ℕ) (shadow : List Bool) (c : AreCo
         where
           by : (b : Bool) → is_marked shadow n ≡ b → is_marked (cond b (set shadow k true) shadow) h ≡ true
           by false f = e
-          by true f = ⊎_elim (λ same. ap (is_marked (set shadow k true)) same ∙ get_or-set_same shadow k true false (let l = c.shadow_long in let b = below in omega (arith, l, b, low))) (λ d. get_or-set_other shadow k h true false d ∙ e) (cases_eq h k)
+          by true f = ⊎_elim (λ same. ap (is_marked (set shadow k true)) same ∙ get_or-set_same shadow k true false (let l = c.shadow_long in let b = below in omega (arith, l, b))) (λ d. get_or-set_other shadow k h true false d ∙ e) (cases_eq h k)
 
       mark-joined : is_marked shadow n ≡ true → is_marked marks k ≡ true
-      mark-joined e = ap (λ b. is_marked (cond b (set shadow k true) shadow) k) e ∙ get_or-set_same shadow k true false (let l = c.shadow_long in let b = below in omega (arith, l, b, low))
+      mark-joined e = ap (λ b. is_marked (cond b (set shadow k true) shadow) k) e ∙ get_or-set_same shadow k true false (let l = c.shadow_long in let b = below in omega (arith, l, b))
 
       mark-before : (h : ℕ) → is_marked marks h ≡ true → (h ≡ k → is_marked shadow n ≡ true → ⊥) → is_marked shadow h ≡ true
       mark-before h e d = by (is_marked shadow n) refl
@@ -120,20 +154,22 @@ module _ (F : Func) (n : ℕ) (class : List ℕ) (shadow : List Bool) (c : AreCo
           by true = length-set shadow k true
           by false = refl
 
-      pub joined-colors : AreColorsBelow F (suc n) new marks
+      pub joined-colors : AreColorsOf F (set placed n true) new marks
       joined-colors = record {
         long = length-set class n k ∙ c.long;
+        placed_long = length-set placed n true ∙ c.placed_long;
         shadow_long = mark-long ∙ c.shadow_long;
-        alone = λ x high. other x (λ e. omega (arith, e, high)) ∙ c.alone x (omega (arith, high));
-        lower = λ x. ⊎_elim (λ e. (let h = here in let g = ap (class_of new) e in let b = below in omega (arith, h, g, b, e))) (λ d. (let l = c.lower x in let o = other x d in omega (arith, l, o))) (cases_eq x n);
+        alone = λ x e. other x (unmarked-other placed n inside-placed x e) ∙ c.alone x (unmarked-before placed n inside-placed x e);
+        kept = λ x e. ⊎_elim
+            (λ same. ap (is_marked with_n) (ap (class_of new) same ∙ here) ∙ marked-kept placed n k there)
+            (λ d. ap (is_marked with_n) (other x d) ∙ marked-kept placed n (class_of class x) (c.kept x (marked-before placed n x e d))) (cases_eq x n);
         arguments = λ x less. other x (λ e. omega (arith, e, less, behind)) ∙ c.arguments x less;
         named = new-named;
         apart = new-apart;
-        settled = λ h m less high first second.
+        settled = λ h m differ there_h there_m first second.
             let a = head-before h first in
             let b = head-before m second in
-            let low-m : m < n = ⊎_elim (λ l. l) (λ up. absurd (b.0 (omega (arith, up, high)))) (cases_lt m n) in
-            new-kept h m (omega (arith, less, low-m)) low-m (c.settled h m less low-m a.1 b.1);
+            new-kept h m a.0 b.0 (c.settled h m differ (marked-before placed n h there_h a.0) (marked-before placed n m there_m b.0) a.1 b.1);
         shadowed = λ x inside_x h. ⊎_elim
             (λ e. ap (is_marked marks) (ap (class_of new) e ∙ here) ∙ mark-joined (ap (is_marked shadow) (sym own) ∙ c.shadowed n low (subst (HasShadow F.code) e h)))
             (λ d. ap (is_marked marks) (other x d) ∙ mark-kept (class_of class x) (c.shadowed x inside_x h))
@@ -145,12 +181,12 @@ module _ (F : Func) (n : ℕ) (class : List ℕ) (shadow : List Bool) (c : AreCo
           new-named x = ⊎_elim at_n elsewhere (cases_eq x n)
             where
               at_n : x ≡ n → class_of new (class_of new x) ≡ class_of new x
-              at_n e = let f : class_of new x ≡ k = ap (class_of new) e ∙ here in ap (class_of new) f ∙ other k (λ g. (let b = below in omega (arith, b, g))) ∙ fits.is_head ∙ sym f
+              at_n e = let f : class_of new x ≡ k = ap (class_of new) e ∙ here in ap (class_of new) f ∙ other k (placed-other k there) ∙ fits.is_head ∙ sym f
 
               elsewhere : (x ≡ n → ⊥) → class_of new (class_of new x) ≡ class_of new x
               elsewhere d =
                   let f = other x d in
-                  let m : class_of class x ≡ n → ⊥ = λ e. (let l = c.lower x in let up : n ≤ x = omega (arith, l, e) in let a = c.alone x up in d (sym a ∙ e)) in
+                  let m : class_of class x ≡ n → ⊥ = λ e. ⊎_elim (λ g. placed-other (class_of class x) (c.kept x g) e) (λ g. d (sym (c.alone x g) ∙ e)) (cases_Bool (is_marked placed x)) in
                   ap (class_of new) f ∙ other (class_of class x) m ∙ c.named x ∙ sym f
 
           new-unshadowed : (h : ℕ) → class_of new h ≡ h → is_marked marks h ≡ true → HasShadowIn F new h
@@ -162,7 +198,7 @@ module _ (F : Func) (n : ℕ) (class : List ℕ) (shadow : List Bool) (c : AreCo
               cases-both (inr d) m = inr (λ p. d p.0)
 
               joined : (h ≡ k) × (is_marked shadow n ≡ true) → HasShadowIn F new h
-              joined p = record { x = n; below = low; of = here ∙ sym p.0; shadow = own-shadow F n class shadow c p.1 }
+              joined p = record { x = n; below = low; of = here ∙ sym p.0; shadow = own-shadow F placed class shadow c n waiting p.1 }
 
               before : (h ≡ k → is_marked shadow n ≡ true → ⊥) → HasShadowIn F new h
               before d =
@@ -170,20 +206,14 @@ module _ (F : Func) (n : ℕ) (class : List ℕ) (shadow : List Bool) (c : AreCo
                   let t = c.unshadowed h b.1 (mark-before h e d) in
                   record { x = t.x; below = t.below; of = other t.x (λ g. b.0 (sym t.of ∙ ap (class_of class) g ∙ own)) ∙ t.of; shadow = t.shadow }
 
--- ---- once all were looked at
+-- ---- once all are placed
 
-pub all-colors : (F : Func) (n : ℕ) (class : List ℕ) (shadow : List Bool) → length F.vars ≤ n → AreColorsBelow F n class shadow → AreColors F class
-all-colors F n class shadow all c = record {
+pub all-colors : (F : Func) (placed : List Bool) (class : List ℕ) (shadow : List Bool) → ((x : ℕ) → x < length F.vars → is_marked placed x ≡ true) → AreColorsOf F placed class shadow → AreColors F class
+all-colors F placed class shadow all c = record {
   long = c.long;
-  inside = λ x low. (let l = c.lower x in omega (arith, l, low));
+  inside = λ x low. class-inside F placed class shadow c x low;
   arguments = c.arguments;
   named = c.named;
   apart = λ x y first second d e. c.apart x y d e;
-  settled = settled;
+  settled = λ x y first second d. c.settled (class_of class x) (class_of class y) d (c.kept x (all x first)) (c.kept y (all y second)) (c.named x) (c.named y);
 }
-  where
-    settled : (x y : ℕ) → x < length F.vars → y < length F.vars → class_of class x ≢ class_of class y → AreKeptApart F class (class_of class x) (class_of class y)
-    settled x y first second d = ⊎_elim (λ e. absurd (d e)) (λ o. ⊎_elim
-        (λ less. c.settled (class_of class x) (class_of class y) less (let l = c.lower y in omega (arith, l, second, all)) (c.named x) (c.named y))
-        (λ less. kept-turned F class (class_of class y) (class_of class x) (c.settled (class_of class y) (class_of class x) less (let l = c.lower x in omega (arith, l, first, all)) (c.named y) (c.named x))) o)
-        (cases_order (class_of class x) (class_of class y))

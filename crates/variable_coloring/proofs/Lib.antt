@@ -5,9 +5,11 @@ pub mod Heads
 pub mod Joining
 pub mod LiveArcs
 pub mod Made
+pub mod Marks
 pub mod Pairing
 pub mod Placing
 pub mod Preparing
 pub mod Seeding
 pub mod Shipped
 pub mod Stamping
+pub mod Waiting

@@ -1,5 +1,5 @@
 -- The stamps of the classes that a variable meets.
-use Rattle.std.proofs.Common.{◌≡◌, ◌⊎◌, ℕ, suc, ◌+◌, ◌<◌, ◌≤◌, List, [], ◌∷◌, ◌++◌, length, get_or, set, take, sym, ap, subst, ◌∙◌, inl, inr, ⊎_elim, arith}
+use Rattle.std.proofs.Common.{◌≡◌, ◌⊎◌, ℕ, suc, ◌+◌, ◌<◌, ◌≤◌, Bool, List, [], ◌∷◌, ◌++◌, length, get_or, set, take, sym, ap, subst, ◌∙◌, inl, inr, ⊎_elim, arith}
 use Rattle.std.specs.Prelude.{slice_index}
 use Rattle.std.specs.List.{Contains}
 use Rattle.std.proofs.lemmas.Bool.{cases_eq, cases_lt}
@@ -8,8 +8,7 @@ use Rattle.std.proofs.lemmas.List.Elements.{Contains-append_left, Contains-push,
 use Rattle.std.proofs.Math.Seq.{take-suc}
 use Rattle.bril_tree.specs.declared.numbered_function.Func.{Func}
 use Rattle.variable_renaming.specs.Classes.{class_of}
-use Rattle.variable_coloring.specs.Growing.{AreStampsOf, StampsClasses}
-use Rattle.variable_coloring.specs.Pairs.{IsPair}
+use Rattle.variable_coloring.specs.Growing.{AreMet, AreStampsOf, StampsClasses}
 
 module _ (x : ℕ) (class met old : List ℕ) where
   -- none is stamped yet
@@ -65,10 +64,10 @@ module _ (x : ℕ) (class met old : List ℕ) where
   stamps-all new n over s = subst (λ l. StampsClasses x class l old new) (take_all n met over) s
 
 -- the classes that meet x are stamped, and no others
-pub stamped-classes : (F : Func) (x : ℕ) (class met old new : List ℕ) → x < length F.vars → ((y : ℕ) → class_of class y ≤ y) → length old ≡ length F.vars → ((k : ℕ) → slice_index old k ≤ x) → ((y : ℕ) → Contains met y → IsPair F x y) → ((y : ℕ) → IsPair F x y → Contains met y) → StampsClasses x class met old new → AreStampsOf F x class new
-stamped-classes F x class met old new low lower long most only all s = record {
+pub stamped-classes : (F : Func) (x turn : ℕ) (placed : List Bool) (class met old new : List ℕ) → ((y : ℕ) → y < length F.vars → class_of class y < length F.vars) → length old ≡ length F.vars → ((k : ℕ) → slice_index old k ≤ turn) → AreMet F x placed met → StampsClasses turn class met old new → AreStampsOf F x turn placed class new
+stamped-classes F x turn placed class met old new inside long most are s = record {
   long = s.long ∙ long;
   most = λ k. ⊎_elim (λ e. (let m = most k in omega (arith, m, e))) (λ h. (let e = h.0 in omega (arith, e))) (s.only k);
-  only = λ k e. ⊎_elim (λ h. absurd (let m = most k in omega (arith, m, e, h))) (λ h. record { y = h.1.0; pair = only h.1.0 h.1.1; of = h.1.2 }) (s.only k);
-  all = λ y p. s.all y (all y p) (let a = p.order in let b = lower y in omega (arith, a, b, low, long));
+  only = λ k e. ⊎_elim (λ h. absurd (let m = most k in omega (arith, m, e, h))) (λ h. record { y = h.1.0; meeting = are.only h.1.0 h.1.1; of = h.1.2 }) (s.only k);
+  all = λ y there m. s.all y (are.all y there m) (let i = inside y m.below in omega (arith, i, long));
 }

@@ -3,52 +3,43 @@
 ghost use Rattle.std.specs.Prelude.{◌≡◌, ◌&&◌, ◌<◌, ◌≤◌, ◌^◌, ◌-◌, ℕ, suc, true, false, IfOk, IfNone, IfSome, length, slice_index, slice_set};
 ghost use Rattle.std.specs.List.{Contains};
 ghost use Rattle.graph_search.specs.Marks.{is_marked};
-ghost use Rattle.variable_coloring.specs.Growing.{AreColorsBelow, FitsIn, MisfitsIn, NoneFitsIn, StampsClasses, shadows_joined};
+ghost use Rattle.variable_coloring.specs.Growing.{AreColorsOf, FitsIn, MisfitsIn, NoneFitsIn, StampsClasses, shadows_joined};
 ghost use Rattle.variable_renaming.specs.Classes.{class_of};
 
+use crate::wishes::Wishes;
 use bril_tree::numbered_function::Func;
 use graph_search::is_marked;
 use std::alloc::{AllocError, Global};
 use variable_renaming::{are_of_one_type, class_of, mark, numbers_below, shadowed_variables};
 
-// Variables are many where there are more of them than registers that keep them.
-const MANY: usize = 23;
-
-// The class of each variable, by its head, the least of its variables; for each head whether a variable of its class has a shadow
-// that items name; and a stamp for each head: x + 1 where a variable of its class meets x, for the last x that was looked at; and another, x + 1 where one of them and
-// x had better not share a name.
+// The class of each variable, by its head, which is one of its variables; which variables are placed, so that they have a class;
+// for each head whether a variable of its class has a shadow that items name; a stamp for each head: turn + 1 where a variable of
+// its class meets the one whose turn it is, for the last turn of any; and what else a choice goes by.
 #[derive(Drop)]
 pub(crate) struct Classes {
     pub class: Vec<u32>,
+    pub placed: Vec<bool>,
     pub shadow: Vec<bool>,
     pub stamps: Vec<u32>,
-    softs: Vec<u32>,
-}
-
-// Stamps the classes of these variables.
-fn stamp_classes(stamps: &mut Vec<u32>, class: &[u32], x: u32, variables: &[u32]) {
-    for y in variables {
-        let head = class_of(class, *y) as usize;
-        if head < stamps.len() {
-            stamps[head] = x.saturating_add(1);
-        }
-    }
+    wishes: Wishes,
 }
 
 impl Classes {
-    // Each variable alone.
-    pub(crate) fn new(alloc: Global, func: &Func) -> Result<Classes, AllocError>
+    // No variable is placed.
+    pub(crate) fn new(alloc: Global, func: &Func, wishes: Wishes) -> Result<Classes, AllocError>
         requires { length func.now.vars ≤ 2 ^ 32 }
-        ensures colors { IfOk result (λ classes. AreColorsBelow func.now 0 classes.class.items classes.shadow.items) }
+        ensures colors { IfOk result (λ classes. AreColorsOf func.now classes.placed.items classes.class.items classes.shadow.items) }
         ensures long { IfOk result (λ classes. length classes.stamps.items ≡ length func.now.vars) }
         ensures none { IfOk result (λ classes. (k : ℕ) → slice_index classes.stamps.items k ≡ 0) }
+        ensures placed { IfOk result (λ classes. (k : ℕ) → is_marked classes.placed.items k ≡ false) }
     {
         let count = func.vars.as_slice().len();
         Ok(Classes {
             class: numbers_below(alloc, count)?,
+            placed: vec![in alloc; false; count]?,
             shadow: shadowed_variables(alloc, func)?,
             stamps: vec![in alloc; 0u32; count]?,
-            softs: vec![in alloc; 0u32; count]?,
+            wishes,
         })
     }
 
@@ -59,50 +50,61 @@ impl Classes {
         is_marked(self.shadow.as_slice(), head as usize)
     }
 
-    // Stamps the class of y, which meets x.
-    fn stamp(&mut self, x: u32, y: u32)
-        requires { x < 2 ^ 32 - 1 }
+    // Whether the variable is placed.
+    pub(crate) fn is_placed(&self, x: u32) -> bool
+        ensures { result ≡ is_marked self.now.placed.items x }
+    {
+        is_marked(self.placed.as_slice(), x as usize)
+    }
+
+    // Whether the turn is a second one, in which a variable is placed anyway.
+    pub(crate) fn is_late(&self, turn: u32) -> bool
+        ensures { result ≡ false → turn < length self.now.class.items }
+    {
+        turn as usize >= self.class.len()
+    }
+
+    // Stamps the class of y, which meets the variable whose turn it is.
+    fn stamp(&mut self, turn: u32, y: u32)
+        requires { turn < 2 ^ 32 - 1 }
         ensures class { self.new.class.items ≡ self.old.class.items }
+        ensures placed { self.new.placed.items ≡ self.old.placed.items }
         ensures shadow { self.new.shadow.items ≡ self.old.shadow.items }
-        ensures stamps { self.new.stamps.items ≡ slice_set self.old.stamps.items (class_of self.old.class.items y) (suc x) }
+        ensures stamps { self.new.stamps.items ≡ slice_set self.old.stamps.items (class_of self.old.class.items y) (suc turn) }
     {
         let head = class_of(self.class.as_slice(), y) as usize;
         if head < self.stamps.len() {
-            self.stamps[head] = x + 1;
+            self.stamps[head] = turn + 1;
         }
     }
 
-    // Stamps the classes of these variables, which meet x.
-    pub(crate) fn stamp_all(&mut self, x: u32, met: &[u32])
-        requires { x < 2 ^ 32 - 1 }
+    // Stamps the classes of these variables, which meet the one whose turn it is.
+    pub(crate) fn stamp_all(&mut self, turn: u32, met: &[u32])
+        requires { turn < 2 ^ 32 - 1 }
         ensures class { self.new.class.items ≡ self.old.class.items }
+        ensures placed { self.new.placed.items ≡ self.old.placed.items }
         ensures shadow { self.new.shadow.items ≡ self.old.shadow.items }
-        ensures stamps { StampsClasses x self.old.class.items met.now self.old.stamps.items self.new.stamps.items }
+        ensures stamps { StampsClasses turn self.old.class.items met.now self.old.stamps.items self.new.stamps.items }
     {
         for y in met {
-            self.stamp(x, *y);
+            self.stamp(turn, *y);
         }
     }
 
-    // Stamps the classes of these variables, which had better not share a name with x.
-    pub(crate) fn stamp_softs(&mut self, x: u32, variables: &[u32])
+    // Stamps the classes that had better not be that of x, in its turn.
+    pub(crate) fn stamp_wishes(
+        &mut self,
+        alloc: Global,
+        x: u32,
+        turn: u32,
+    ) -> Result<(), AllocError>
         ensures class { self.new.class.items ≡ self.old.class.items }
+        ensures placed { self.new.placed.items ≡ self.old.placed.items }
         ensures shadow { self.new.shadow.items ≡ self.old.shadow.items }
         ensures stamps { self.new.stamps.items ≡ self.old.stamps.items }
     {
-        stamp_classes(&mut self.softs, self.class.as_slice(), x, variables);
-    }
-
-    // Whether the class is left to x only where no other fits: one whose name had better not be that of x; and where variables are
-    // many, so that they compete for registers, that of an argument, which is live from the start.
-    fn is_last_choice(&self, func: &Func, x: u32, head: u32) -> bool {
-        if head < func.args && self.class.len() > MANY {
-            return true;
-        }
-        match self.softs.get(head as usize) {
-            None => false,
-            Some(stamp) => *stamp == x.saturating_add(1),
-        }
+        self.wishes.look_at(alloc, self.class.as_slice(), x, turn)?;
+        Ok(())
     }
 
     // Whether both have a shadow that items name, x and a variable of the class.
@@ -112,103 +114,120 @@ impl Classes {
         self.is_shadowed(x) && self.is_shadowed(head)
     }
 
-    // Whether the number is the head of a class that x may be put into.
-    fn fits(&self, func: &Func, x: u32, head: u32) -> bool
-        requires x { x < length func.now.vars }
-        requires few { x < 2 ^ 32 - 1 }
-        requires class { length self.now.class.items ≡ length func.now.vars }
-        requires stamps { length self.now.stamps.items ≡ length func.now.vars }
-        ensures fits { result ≡ true → FitsIn func.now self.now x head }
-        ensures misfits { result ≡ false → MisfitsIn func.now self.now x head }
+    // Whether the number is the head of a class of before.
+    fn is_head(&self, head: u32) -> bool
+        ensures head { result ≡ true → class_of self.now.class.items head ≡ head }
+        ensures placed { result ≡ true → is_marked self.now.placed.items head ≡ true }
+        ensures below { result ≡ true → head < length self.now.placed.items }
+        ensures other { result ≡ false → is_marked self.now.placed.items head ≡ true → class_of self.now.class.items head ≡ head → ⊥ }
     {
-        if head >= x || self.class[head as usize] != head {
+        (head as usize) < self.placed.len()
+            && self.placed[head as usize]
+            && class_of(self.class.as_slice(), head) == head
+    }
+
+    // Whether the number is the head of a class that x may be put into, in its turn.
+    fn fits(&self, func: &Func, x: u32, turn: u32, head: u32) -> bool
+        requires x { x < length func.now.vars }
+        requires few { turn < 2 ^ 32 - 1 }
+        requires placed { length self.now.placed.items ≡ length func.now.vars }
+        requires stamps { length self.now.stamps.items ≡ length func.now.vars }
+        ensures fits { result ≡ true → FitsIn func.now self.now x turn head }
+        ensures misfits { result ≡ false → MisfitsIn func.now self.now x turn head }
+    {
+        if !self.is_head(head) {
             return false;
         }
         if !are_of_one_type(func, x, head) {
             return false;
         }
-        if self.stamps[head as usize] == x + 1 {
+        if self.stamps[head as usize] == turn + 1 {
             return false;
         }
         !self.are_shadowed(x, head)
     }
 
-    // The place of the first of these numbers that is the head of a class that x may be put into.
-    fn find_any(&self, func: &Func, x: u32, heads: &[u32]) -> Option<usize>
+    // Whether the class is left to x only where no other fits.
+    fn is_last_choice(&self, func: &Func, x: u32, turn: u32, head: u32) -> bool {
+        self.wishes.is_last_choice(func, x, turn, head)
+    }
+
+    // Whether the number is the head of a class that x may be put into, in its turn, and no last choice, unless any will do.
+    fn suits(&self, func: &Func, x: u32, turn: u32, head: u32, any: bool) -> bool
         requires x { x < length func.now.vars }
-        requires few { x < 2 ^ 32 - 1 }
-        requires class { length self.now.class.items ≡ length func.now.vars }
+        requires few { turn < 2 ^ 32 - 1 }
+        requires placed { length self.now.placed.items ≡ length func.now.vars }
+        requires stamps { length self.now.stamps.items ≡ length func.now.vars }
+        ensures fits { result ≡ true → FitsIn func.now self.now x turn head }
+        ensures misfits { any ≡ true → result ≡ false → MisfitsIn func.now self.now x turn head }
+    {
+        (any || !self.is_last_choice(func, x, turn, head)) && self.fits(func, x, turn, head)
+    }
+
+    // The place of the first of these numbers that is the head of a class that x may be put into, in its turn; of one that is no
+    // last choice, unless any will do.
+    pub(crate) fn find(
+        &self,
+        func: &Func,
+        x: u32,
+        turn: u32,
+        heads: &[u32],
+        any: bool,
+    ) -> Option<usize>
+        requires x { x < length func.now.vars }
+        requires few { turn < 2 ^ 32 - 1 }
+        requires placed { length self.now.placed.items ≡ length func.now.vars }
         requires stamps { length self.now.stamps.items ≡ length func.now.vars }
         ensures within { IfSome result (λ place. place < length heads.now) }
-        ensures fits { IfSome result (λ place. FitsIn func.now self.now x (slice_index heads.now place)) }
-        ensures none { IfNone result (NoneFitsIn func.now self.now x heads.now) }
+        ensures fits { IfSome result (λ place. FitsIn func.now self.now x turn (slice_index heads.now place)) }
+        ensures none { any ≡ true → IfNone result (NoneFitsIn func.now self.now x turn heads.now) }
     {
         for (place, head) in heads.iter().enumerate() {
-            if self.fits(func, x, *head) {
+            if self.suits(func, x, turn, *head, any) {
                 return Some(place);
             }
         }
         None
     }
 
-    // The place of the first of these numbers that is the head of a class that x may be put into, and no last choice.
-    fn find_good(&self, func: &Func, x: u32, heads: &[u32]) -> Option<usize>
+    // The head of the class of one of these variables, where x may be put into it, in its turn.
+    pub(crate) fn find_of(&self, func: &Func, x: u32, turn: u32, variables: &[u32]) -> Option<u32>
         requires x { x < length func.now.vars }
-        requires few { x < 2 ^ 32 - 1 }
-        requires class { length self.now.class.items ≡ length func.now.vars }
+        requires few { turn < 2 ^ 32 - 1 }
+        requires placed { length self.now.placed.items ≡ length func.now.vars }
         requires stamps { length self.now.stamps.items ≡ length func.now.vars }
-        ensures within { IfSome result (λ place. place < length heads.now) }
-        ensures fits { IfSome result (λ place. FitsIn func.now self.now x (slice_index heads.now place)) }
-    {
-        for (place, head) in heads.iter().enumerate() {
-            if !self.is_last_choice(func, x, *head) && self.fits(func, x, *head) {
-                return Some(place);
-            }
-        }
-        None
-    }
-
-    // The place of one of these numbers that is the head of a class that x may be put into, rather of one that is no last choice.
-    pub(crate) fn find(&self, func: &Func, x: u32, heads: &[u32]) -> Option<usize>
-        requires x { x < length func.now.vars }
-        requires few { x < 2 ^ 32 - 1 }
-        requires class { length self.now.class.items ≡ length func.now.vars }
-        requires stamps { length self.now.stamps.items ≡ length func.now.vars }
-        ensures within { IfSome result (λ place. place < length heads.now) }
-        ensures fits { IfSome result (λ place. FitsIn func.now self.now x (slice_index heads.now place)) }
-        ensures none { IfNone result (NoneFitsIn func.now self.now x heads.now) }
-    {
-        match self.find_good(func, x, heads) {
-            Some(place) => Some(place),
-            None => self.find_any(func, x, heads),
-        }
-    }
-
-    // The head of the class of one of these variables, where x may be put into it.
-    pub(crate) fn find_of(&self, func: &Func, x: u32, variables: &[u32]) -> Option<u32>
-        requires x { x < length func.now.vars }
-        requires few { x < 2 ^ 32 - 1 }
-        requires class { length self.now.class.items ≡ length func.now.vars }
-        requires stamps { length self.now.stamps.items ≡ length func.now.vars }
-        ensures { IfSome result (FitsIn func.now self.now x) }
+        ensures { IfSome result (FitsIn func.now self.now x turn) }
     {
         for y in variables {
             let head = class_of(self.class.as_slice(), *y);
-            if self.fits(func, x, head) {
+            if self.fits(func, x, turn, head) {
                 return Some(head);
             }
         }
         None
     }
 
-    // Puts x into the class.
+    // Places x in a class of its own.
+    pub(crate) fn open(&mut self, x: u32)
+        ensures class { self.new.class.items ≡ self.old.class.items }
+        ensures placed { self.new.placed.items ≡ slice_set self.old.placed.items x true }
+        ensures shadow { self.new.shadow.items ≡ self.old.shadow.items }
+        ensures stamps { self.new.stamps.items ≡ self.old.stamps.items }
+    {
+        mark(&mut self.placed, x);
+    }
+
+    // Places x in the class.
     pub(crate) fn join(&mut self, x: u32, head: u32)
         requires { x < length self.old.class.items }
         ensures class { self.new.class.items ≡ slice_set self.old.class.items x head }
+        ensures placed { self.new.placed.items ≡ slice_set self.old.placed.items x true }
         ensures shadow { self.new.shadow.items ≡ shadows_joined self.old.shadow.items x head }
         ensures stamps { self.new.stamps.items ≡ self.old.stamps.items }
     {
         self.class[x as usize] = head;
+        mark(&mut self.placed, x);
+        self.wishes.join(x, head);
         if self.is_shadowed(x) {
             mark(&mut self.shadow, head);
         }

@@ -228,8 +228,7 @@ impl Meetings {
 }
 
 // The pairs of a function's variables that meet, each in the row of the larger variable; those that had better not share a name are
-// added to `softs`. A function with 2^32 - 1 pairs or more is
-// taken to need more memory than there is.
+// added to `softs`. A function with 2^32 - 1 pairs or more is taken to need more memory than there is.
 pub(crate) fn pairs_in(
     alloc: Global,
     func: &Func,

@@ -1,10 +1,11 @@
 // Variables that had better not share a name: one is live where a guard leads, and the other is assigned in the speculation before
 // it. A name that is both is saved at the `speculate` and put back by the guard.
 
-use crate::pairs::pair;
+use crate::wishes::{Gathered, SITE, Wishes};
 use bril_tree::edge::Edge;
 use bril_tree::numbered::Instr;
 use bril_tree::numbered_function::Func;
+use bril_tree::operation::Op;
 use flow_graph::{Access, AccessLists, Graph};
 use graph_search::number_of_length;
 use std::alloc::{AllocError, Global};
@@ -17,11 +18,11 @@ const SPAN: u32 = 256;
 // choice.
 const MOST: usize = 16;
 
-// For each point to which guards lead the variables that are assigned before them, and pairs.
+// For each point to which guards lead the variables that are assigned before them, `SITE` for each `speculate`, and pairs.
 #[derive(Drop)]
 pub(crate) struct Softs {
     outs: AccessLists,
-    list: Vec<Access>,
+    list: Gathered,
     most: usize,
 }
 
@@ -52,10 +53,33 @@ fn push_out(outs: &mut Vec<Access>, code: &[Instr], edge: Edge) -> Result<(), Al
     Ok(())
 }
 
+// Whether the item is a `speculate`.
+fn is_site(item: &Instr) -> bool {
+    match item {
+        Instr::Act { op, .. } => *op == Op::Speculate,
+        _ => false,
+    }
+}
+
+// Adds `SITE` for each `speculate`, as if it were assigned before a guard that leads there.
+fn push_sites(outs: &mut Vec<Access>, code: &[Instr]) -> Result<(), AllocError> {
+    let mut point = 0u32;
+    for item in code {
+        if is_site(item) {
+            outs.push(Access {
+                item: SITE,
+                location: point,
+            })?;
+        }
+        point = point.saturating_add(1);
+    }
+    Ok(())
+}
+
 // Adds the pairs of x and of these variables.
-fn push_pairs(list: &mut Vec<Access>, x: u32, variables: &[u32]) -> Result<(), AllocError> {
+fn push_pairs(list: &mut Gathered, x: u32, variables: &[u32]) -> Result<(), AllocError> {
     for y in variables {
-        list.push(pair(x, *y))?;
+        list.push(x, *y)?;
     }
     Ok(())
 }
@@ -71,10 +95,11 @@ impl Softs {
                 push_out(&mut outs, code, *edge)?;
             }
         }
+        push_sites(&mut outs, code)?;
         number_of_length(outs.len())?;
         Ok(Softs {
             outs: AccessLists::of(alloc, outs)?,
-            list: Vec::new(alloc),
+            list: Gathered::new(alloc, func.vars.as_slice().len())?,
             most,
         })
     }
@@ -103,11 +128,9 @@ impl Softs {
         Ok(())
     }
 
-    // The pairs, each in the row of the larger variable. A function with 2^32 - 1 of them or more is taken to need more memory than
-    // there is.
-    pub(crate) fn lists(self, alloc: Global) -> Result<AccessLists, AllocError> {
-        number_of_length(self.list.len())?;
-        let lists = AccessLists::of(alloc, self.list)?;
-        Ok(lists)
+    // What the choice of a class goes by.
+    pub(crate) fn wishes(self, alloc: Global) -> Result<Wishes, AllocError> {
+        let wishes = Wishes::of(alloc, self.list)?;
+        Ok(wishes)
     }
 }
