@@ -78,6 +78,7 @@ impl<'a> Interp<'a> {
     ghost use Rattle.bril_interpreter.specs.Steps.{older_of, values_in, item_of, IsAtItem, HasDest, Did, Makes};
 
     // A frame more, where the limit allows it. Memory is wanting only where it does, and then nothing changes.
+    #[inline(always)]
     pub(crate) fn call(&mut self, callee: u32, args: &[u32]) -> Result<(), AllocError>
         requires { IsAtItem self.old }
         ensures ok { OnOk result (Makes self.old (under self.old calls callee (values_in self.old args.now)) self.new) }
@@ -112,6 +113,7 @@ impl<'a> Interp<'a> {
     }
 
     // The newest frame is popped, and its value goes to the call at which its caller stands.
+    #[inline(always)]
     pub(crate) fn return_value(&mut self, value: Value)
         ensures { Did self.old (under self.old returns value (older_of self.old) (state_of self.old)) self.new }
     {
