@@ -1,6 +1,7 @@
 // Calls and returns.
 
-ghost use Rattle.std.specs.Prelude.{◌≡◌, suc, true, nat_lt, length, IfOk, OnOk, OnErr};
+ghost use Rattle.std.specs.Prelude.{◌≡◌, ◌<◌, suc, true, nat_lt, length, IfOk, OnOk, OnErr};
+ghost use Rattle.std.specs.Vec.{vec_len, vec_capacity};
 ghost use Rattle.bril_tree.specs.Operand.{dest_of};
 
 use crate::frame::Frame;
@@ -20,11 +21,41 @@ fn keep_frame(returned: &mut Vec<Frame>, frame: Frame) {
     }
 }
 
+// Room for a frame more among these.
+#[inline(always)]
+fn make_room(older: &mut Vec<Frame>, returned: &mut Vec<Frame>) -> Result<(), AllocError>
+    ensures older { older.new.items ≡ older.old.items }
+    ensures room { OnOk result (vec_len older.new < vec_capacity older.new) }
+{
+    if older.len() < older.capacity() {
+        Ok(())
+    } else {
+        grow(older, returned)
+    }
+}
+
+// More room than there is, and as much for those that return.
+#[inline(never)]
+fn grow(older: &mut Vec<Frame>, returned: &mut Vec<Frame>) -> Result<(), AllocError>
+    ensures older { older.new.items ≡ older.old.items }
+    ensures room { OnOk result (vec_len older.new < vec_capacity older.new) }
+{
+    older.reserve(1)?;
+    returned.reserve(older.capacity())
+}
+
+// A frame that holds nothing.
+#[inline(never)]
+fn empty_frame(alloc: Global) -> Result<Frame, AllocError> {
+    Frame::start(alloc, 0, Locals::none(alloc))
+}
+
 // A frame for a call, whatever it holds.
+#[inline(always)]
 fn spare_frame(returned: &mut Vec<Frame>, alloc: Global) -> Result<Frame, AllocError> {
     match returned.pop() {
         Some(used) => Ok(used),
-        None => Frame::start(alloc, 0, Locals::none(alloc)),
+        None => empty_frame(alloc),
     }
 }
 
@@ -47,6 +78,7 @@ impl<'a> Interp<'a> {
     ghost use Rattle.bril_interpreter.specs.Steps.{older_of, values_in, item_of, IsAtItem, HasDest, Did, Makes};
 
     // A frame more, where the limit allows it. Memory is wanting only where it does, and then nothing changes.
+    #[inline(always)]
     pub(crate) fn call(&mut self, callee: u32, args: &[u32]) -> Result<(), AllocError>
         requires { IsAtItem self.old }
         ensures ok { OnOk result (Makes self.old (under self.old calls callee (values_in self.old args.now)) self.new) }
@@ -58,14 +90,14 @@ impl<'a> Interp<'a> {
             return Ok(());
         }
         let frame = self.new_frame(callee, args)?;
-        self.returned.reserve(self.older.len() + 1)?;
-        self.older.reserve(1)?;
+        make_room(&mut self.older, &mut self.returned)?;
         let caller = mem::replace(&mut self.newest, frame);
         self.older.push_reserved(caller);
         Ok(())
     }
 
     // The frame of a call, with the values of these variables.
+    #[inline(always)]
     fn new_frame(&mut self, callee: u32, args: &[u32]) -> Result<Frame, AllocError>
         ensures same { self.new ≡ self.old }
         ensures frame { IfOk result (λ frame. frame_of frame ≡ new_frame callee (values_in self.old args.now)) }
@@ -81,6 +113,7 @@ impl<'a> Interp<'a> {
     }
 
     // The newest frame is popped, and its value goes to the call at which its caller stands.
+    #[inline(always)]
     pub(crate) fn return_value(&mut self, value: Value)
         ensures { Did self.old (under self.old returns value (older_of self.old) (state_of self.old)) self.new }
     {

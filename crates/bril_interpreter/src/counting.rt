@@ -28,15 +28,6 @@ impl<'a> Interp<'a> {
         if function >= counts.len() {
             return 0;
         }
-        match self.tables.get(function) {
-            Some(table) => self.newest.run_counting(
-                table.quick(),
-                &mut self.cells,
-                most,
-                hot,
-                counts[function].as_mut_slice(),
-            ),
-            None => 0,
-        }
+        self.run_frames(most, true, hot, counts[function].as_mut_slice())
     }
 }

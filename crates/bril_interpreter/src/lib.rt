@@ -6,8 +6,8 @@
 //!    points of its labels, looked up once, how often its guards failed, and what its variables hold at first (`src/table.rt`).
 //! 2. Steps and runs (`src/step.rt`), with a file for each group of operations (`src/actions.rt`, `src/calls.rt`,
 //!    `src/memory.rt`, `src/printing.rt`, `src/speculation.rt`), and what they answer (`src/answer.rt`, `src/stop.rt`).
-//! 3. Small items with resolved operands (`src/quick.rt`), the loops that run them (`src/quick_steps.rt`), one of which counts
-//!    arrivals at labels, and the steps that it makes (`src/counting.rt`, `specs/Arrivals.antt`).
+//! 3. Small items with resolved operands (`src/quick.rt`), the loop that runs them (`src/quick_steps.rt`), and the steps before which
+//!    it counts arrivals at labels (`src/counting.rt`, `specs/Arrivals.antt`).
 #![tactic(auto)]
 
 mod actions;
