@@ -3,13 +3,13 @@
 //!
 //! 1. What the pass finds in a function (`specs/Colors.antt`): classes of variables, as large as can be. First come the pairs of
 //!    variables that meet, one assigned while the other is live (`specs/Pairs.antt`, `src/pairs.rt`, `src/dests.rt`,
-//!    `proofs/Pairing.antt`), the variables that copies relate (`src/copies.rt`), and what had better not share a name
-//!    (`src/softs.rt`, `src/wishes.rt`). Then the variables, in the order of their first appearance, are put into classes of
-//!    before, or begin one (`specs/Growing.antt`, `src/colors.rt`, `proofs/Placing.antt`, `proofs/Marks.antt`): a class that meets
-//!    a variable is stamped (`src/classes.rt`, `proofs/Stamping.antt`), what a variable may be put into is apart from it and what
-//!    not isn't (`proofs/Fitting.antt`, `proofs/Joining.antt`), and heads of classes stand in rows by their types (`src/rows.rt`,
-//!    `proofs/Heads.antt`). Variables that find no class to their liking wait, and have a second turn (`specs/Late.antt`,
-//!    `src/late.rt`, `proofs/Waiting.antt`).
+//!    `proofs/Pairing.antt`), the variables that copies relate (`src/copies.rt`), and what else guides the choice, of which no
+//!    clause speaks (`src/softs.rt`, `src/loops.rt`, `src/wishes.rt`). Then the variables, in the order of their first appearance,
+//!    are put into classes of before, or begin one (`specs/Growing.antt`, `src/colors.rt`, `proofs/Placing.antt`,
+//!    `proofs/Marks.antt`): a class that meets a variable is stamped (`src/classes.rt`, `proofs/Stamping.antt`), what a variable
+//!    may be put into is apart from it and what not isn't (`proofs/Fitting.antt`, `proofs/Joining.antt`), and heads of classes
+//!    stand in rows by their types (`src/rows.rt`, `proofs/Heads.antt`). Variables that find no class to their liking wait, and
+//!    have a second turn (`specs/Late.antt`, `src/late.rt`, `proofs/Waiting.antt`).
 //! 2. What it makes (`specs/Color.antt`), and the pass (`src/color.rt`). That it keeps what a pass owes follows from
 //!    `variable_renaming`, since such classes are sound (`proofs/Made.antt`).
 #![tactic(auto)]
@@ -20,6 +20,7 @@ mod colors;
 mod copies;
 mod dests;
 mod late;
+mod loops;
 mod pairs;
 mod rows;
 mod softs;
