@@ -1,6 +1,6 @@
 -- What it says of variables that one may be put into a class, or not.
-use Rattle.std.proofs.Common.{◌≡◌, ℕ, suc, ◌+◌, ◌<◌, ◌≤◌, Bool, true, false, List, length, get_or, take, sym, ap, subst, ◌∙◌, inl, inr, ⊎_elim, arith}
-use Rattle.std.specs.Prelude.{slice_index}
+use Rattle.std.proofs.Common.{◌≡◌, Option, Some, None, ℕ, suc, ◌+◌, ◌<◌, ◌≤◌, Bool, true, false, List, length, get_or, take, sym, ap, subst, ◌∙◌, inl, inr, ⊎_elim, arith}
+use Rattle.std.specs.Prelude.{IfNone, IfSome, slice_index}
 use Rattle.std.specs.List.{Contains}
 use Rattle.std.proofs.lemmas.Bool.{cases_eq, cases_Bool, and_cases}
 use Rattle.std.proofs.lemmas.List.{take_all}
@@ -103,12 +103,33 @@ module _ (F : Func) (placed : List Bool) (class : List ℕ) (shadow : List Bool)
           let t = c.unshadowed h head second in
           record { u = t.x; v = n; first_below = t.below; second_below = low; first = t.of; second = c.alone n waiting; meet = λ a. a.shadows t.shadow (own-shadow first) }
 
--- ---- none of some numbers
+-- ---- what is found among some numbers
 
 module _ (F : Func) (placed : List Bool) (class : List ℕ) (shadow : List Bool) (stamps : List ℕ) (x turn : ℕ) (heads : List ℕ) where
-  pub none-more : (n : ℕ) → n < length heads → Misfits F placed class shadow stamps x turn (get_or heads n 0) → NoneFits F placed class shadow stamps x turn (take n heads) → NoneFits F placed class shadow stamps x turn (take (n + 1) heads)
+  -- the place of the best one of the first n, and that one; there is none only where none fits, or not any will do
+  pub record IsBest (any : Bool) (n : ℕ) (best found : Option ℕ) : Type 0 where
+    pub within : IfSome best (λ place. place < length heads)
+    pub fits : IfSome best (λ place. Fits F placed class shadow stamps x turn (get_or heads place 0))
+    pub same : IfNone best (found ≡ None)
+    pub none : any ≡ true → IfNone best (NoneFits F placed class shadow stamps x turn (take n heads))
+
+  none-more : (n : ℕ) → n < length heads → Misfits F placed class shadow stamps x turn (get_or heads n 0) → NoneFits F placed class shadow stamps x turn (take n heads) → NoneFits F placed class shadow stamps x turn (take (n + 1) heads)
   none-more n low m none h c = ⊎_elim (none h) (λ e. subst (Misfits F placed class shadow stamps x turn) e m)
       (Contains-push_cases (take n heads) (get_or heads n 0) h (subst (λ l. Contains l h) (ap (λ k. take k heads) (let e : n + 1 ≡ suc n = omega arith in e) ∙ take-suc heads n 0 low) c))
 
-  pub none-all : (n : ℕ) → length heads ≤ n → NoneFits F placed class shadow stamps x turn (take n heads) → NoneFits F placed class shadow stamps x turn heads
-  none-all n over none = subst (NoneFits F placed class shadow stamps x turn) (take_all n heads over) none
+  -- a better one
+  pub best-here : (any : Bool) (n : ℕ) (best found : Option ℕ) → best ≡ Some n → n < length heads → Fits F placed class shadow stamps x turn (get_or heads n 0) → IsBest any (n + 1) best found
+  best-here any n best found e low fits = subst (λ b. IsBest any (n + 1) b found) (sym e) (record { within = low; fits = fits; same = tt; none = λ all. tt })
+
+  -- or not
+  pub best-before : (any : Bool) (n : ℕ) (best found : Option ℕ) → n < length heads → IsBest any n best found → (any ≡ true → IfNone found (Misfits F placed class shadow stamps x turn (get_or heads n 0))) → IsBest any (n + 1) best found
+  best-before any n None found low before misfits = record {
+    within = tt;
+    fits = tt;
+    same = before.same;
+    none = λ all. none-more n low (subst (λ f. IfNone f (Misfits F placed class shadow stamps x turn (get_or heads n 0))) before.same (misfits all)) (before.none all);
+  }
+  best-before any n (Some place) found low before misfits = record { within = before.within; fits = before.fits; same = tt; none = λ all. tt }
+
+  pub best-all : (any : Bool) (n : ℕ) (best found : Option ℕ) → length heads ≤ n → IsBest any n best found → any ≡ true → IfNone best (NoneFits F placed class shadow stamps x turn heads)
+  best-all any n best found over b all = subst (λ l. IfNone best (NoneFits F placed class shadow stamps x turn l)) (take_all n heads over) (b.none all)

@@ -152,20 +152,34 @@ impl Classes {
         self.wishes.is_last_choice(func, x, turn, head)
     }
 
-    // Whether the number is the head of a class that x may be put into, in its turn, and no last choice, unless any will do.
-    fn suits(&self, func: &Func, x: u32, turn: u32, head: u32, any: bool) -> bool
+    // Whether the number is the head of a class that x may be put into, in its turn: of one that is no last choice, unless any
+    // will do, and of a better one than that which was found.
+    fn suits(
+        &self,
+        func: &Func,
+        x: u32,
+        turn: u32,
+        head: u32,
+        any: bool,
+        found: Option<u32>,
+    ) -> bool
         requires x { x < length func.now.vars }
         requires few { turn < 2 ^ 32 - 1 }
         requires placed { length self.now.placed.items ≡ length func.now.vars }
         requires stamps { length self.now.stamps.items ≡ length func.now.vars }
         ensures fits { result ≡ true → FitsIn func.now self.now x turn head }
-        ensures misfits { any ≡ true → result ≡ false → MisfitsIn func.now self.now x turn head }
+        ensures misfits { any ≡ true → result ≡ false → IfNone found (MisfitsIn func.now self.now x turn head) }
     {
+        if let Some(other) = found {
+            if !self.wishes.is_better(head, other) {
+                return false;
+            }
+        }
         (any || !self.is_last_choice(func, x, turn, head)) && self.fits(func, x, turn, head)
     }
 
-    // The place of the first of these numbers that is the head of a class that x may be put into, in its turn; of one that is no
-    // last choice, unless any will do.
+    // The place of one of these numbers that is the head of a class that x may be put into, in its turn: of one that is no last
+    // choice, unless any will do.
     pub(crate) fn find(
         &self,
         func: &Func,
@@ -182,12 +196,15 @@ impl Classes {
         ensures fits { IfSome result (λ place. FitsIn func.now self.now x turn (slice_index heads.now place)) }
         ensures none { any ≡ true → IfNone result (NoneFitsIn func.now self.now x turn heads.now) }
     {
+        let mut best: Option<usize> = None;
+        let mut found: Option<u32> = None;
         for (place, head) in heads.iter().enumerate() {
-            if self.suits(func, x, turn, *head, any) {
-                return Some(place);
+            if self.suits(func, x, turn, *head, any, found) {
+                best = Some(place);
+                found = Some(*head);
             }
         }
-        None
+        best
     }
 
     // The head of the class of one of these variables, where x may be put into it, in its turn.

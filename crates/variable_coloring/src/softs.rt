@@ -1,6 +1,7 @@
 // Variables that had better not share a name: one is live where a guard leads, and the other is assigned in the speculation before
 // it. A name that is both is saved at the `speculate` and put back by the guard.
 
+use crate::loops::accesses_in_loops;
 use crate::wishes::{Gathered, SITE, Wishes};
 use bril_tree::edge::Edge;
 use bril_tree::numbered::Instr;
@@ -99,7 +100,7 @@ impl Softs {
         number_of_length(outs.len())?;
         Ok(Softs {
             outs: AccessLists::of(alloc, outs)?,
-            list: Gathered::new(alloc, func.vars.as_slice().len())?,
+            list: Gathered::new(alloc, accesses_in_loops(alloc, func, graph)?)?,
             most,
         })
     }

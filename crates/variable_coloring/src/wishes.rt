@@ -1,5 +1,6 @@
 // What the choice of a class goes by beside what it must keep: no contract speaks of it.
 
+use crate::loops::number_at;
 use bril_tree::numbered_function::Func;
 use flow_graph::{Access, AccessLists};
 use graph_search::{is_marked, number_of_length};
@@ -12,23 +13,25 @@ const MANY: usize = 23;
 // The number that stands for a `speculate`, in place of a variable.
 pub(crate) const SITE: u32 = u32::MAX;
 
-// Pairs of variables that had better not share a name, each in the rows of both, and marks of variables: of those that a
-// `speculate` saves, and of those that are live at one.
+// Pairs of variables that had better not share a name, each in the rows of both; marks of variables: of those that a `speculate`
+// saves, and of those that are live at one; and how often items in loops access each.
 #[derive(Drop)]
 pub(crate) struct Gathered {
     pairs: Vec<Access>,
     saved: Vec<bool>,
     awake: Vec<bool>,
+    accesses: Vec<u32>,
 }
 
 // The same for the choice, by the heads of classes: whether a variable of the class is saved at a `speculate`, and whether another
-// one is live at one, which would be saved too if they had one name; and a stamp: turn + 1 where a variable of the class and the
-// one whose turn it is are a pair.
+// one is live at one, which would be saved too if they had one name; how often items in loops access any; and a stamp: turn + 1
+// where a variable of the class and the one whose turn it is are a pair.
 #[derive(Drop)]
 pub(crate) struct Wishes {
     pairs: AccessLists,
     saved: Vec<bool>,
     awake: Vec<bool>,
+    accesses: Vec<u32>,
     stamps: Vec<u32>,
 }
 
@@ -58,12 +61,14 @@ fn are_marked(first: &[bool], second: &[bool], x: u32, y: u32) -> bool {
 }
 
 impl Gathered {
-    // Nothing yet, of so many variables.
-    pub(crate) fn new(alloc: Global, count: usize) -> Result<Gathered, AllocError> {
+    // No pair yet, of variables that items in loops access so often.
+    pub(crate) fn new(alloc: Global, accesses: Vec<u32>) -> Result<Gathered, AllocError> {
+        let count = accesses.len();
         Ok(Gathered {
             pairs: Vec::new(alloc),
             saved: vec![in alloc; false; count]?,
             awake: vec![in alloc; false; count]?,
+            accesses,
         })
     }
 
@@ -92,6 +97,7 @@ impl Wishes {
             pairs,
             saved,
             mut awake,
+            accesses,
         } = gathered;
         unmark(&mut awake, saved.as_slice());
         number_of_length(pairs.len())?;
@@ -100,6 +106,7 @@ impl Wishes {
             pairs: AccessLists::of(alloc, pairs)?,
             saved,
             awake,
+            accesses,
             stamps: vec![in alloc; 0u32; count]?,
         })
     }
@@ -142,8 +149,19 @@ impl Wishes {
         self.is_costly(x, turn, head)
     }
 
+    // Whether the first class is the better one, where variables are many: a class that grows has a longer life, for which a
+    // register is rather wanting, and items in loops access this one less often.
+    pub(crate) fn is_better(&self, first: u32, second: u32) -> bool {
+        let accesses = self.accesses.as_slice();
+        self.stamps.len() > MANY && number_at(accesses, first) < number_at(accesses, second)
+    }
+
     // Puts x into the class.
     pub(crate) fn join(&mut self, x: u32, head: u32) {
+        let accesses = number_at(self.accesses.as_slice(), x);
+        if (head as usize) < self.accesses.len() {
+            self.accesses[head as usize] = self.accesses[head as usize].saturating_add(accesses);
+        }
         if is_marked(self.saved.as_slice(), x as usize) {
             mark(&mut self.saved, head);
         }
