@@ -12,6 +12,9 @@ use graph_search::is_marked;
 use std::alloc::{AllocError, Global};
 use variable_renaming::{are_of_one_type, class_of, mark, numbers_below, shadowed_variables};
 
+// How many heads are looked at for a better one than the first that fits.
+const LOOK: u32 = 64;
+
 // The class of each variable, by its head, which is one of its variables; which variables are placed, so that they have a class;
 // for each head whether a variable of its class has a shadow that items name; a stamp for each head: turn + 1 where a variable of
 // its class meets the one whose turn it is, for the last turn of any; and what else a choice goes by.
@@ -57,11 +60,11 @@ impl Classes {
         is_marked(self.placed.as_slice(), x as usize)
     }
 
-    // Whether the turn is a second one, in which a variable is placed anyway.
-    pub(crate) fn is_late(&self, turn: u32) -> bool
+    // Whether x takes the class in this turn: one that would cost a save only in its second turn, in which it is placed anyway.
+    pub(crate) fn takes(&self, x: u32, turn: u32, head: u32) -> bool
         ensures { result ≡ false → turn < length self.now.class.items }
     {
-        turn as usize >= self.class.len()
+        turn as usize >= self.class.len() || !self.wishes.is_costly(x, turn, head)
     }
 
     // Stamps the class of y, which meets the variable whose turn it is.
@@ -179,7 +182,7 @@ impl Classes {
     }
 
     // The place of one of these numbers that is the head of a class that x may be put into, in its turn: of one that is no last
-    // choice, unless any will do.
+    // choice, unless any will do. Behind the first one it looks at a few more, for a better one.
     pub(crate) fn find(
         &self,
         func: &Func,
@@ -198,10 +201,17 @@ impl Classes {
     {
         let mut best: Option<usize> = None;
         let mut found: Option<u32> = None;
+        let mut more = LOOK;
         for (place, head) in heads.iter().enumerate() {
             if self.suits(func, x, turn, *head, any, found) {
                 best = Some(place);
                 found = Some(*head);
+            }
+            if found.is_some() {
+                if more == 0 {
+                    return best;
+                }
+                more -= 1;
             }
         }
         best

@@ -174,7 +174,7 @@ impl Colors {
     }
 
     // Puts x, whose shadow no item names, into a class, rather into that of one of these variables, or into one of its own. Where
-    // only last choices are left, it waits for its second turn.
+    // only one is left that would cost a save, it waits for its second turn.
     fn put_plain(
         &mut self,
         func: &Func,
@@ -196,7 +196,7 @@ impl Colors {
         match self.fitting(func, x, turn, true) {
             None => self.open(func, x)?,
             Some(head) => {
-                if self.classes.is_late(turn) {
+                if self.classes.takes(x, turn, head) {
                     self.classes.join(x, head);
                 }
             }

@@ -129,7 +129,7 @@ impl Wishes {
     }
 
     // Whether more would be saved at a `speculate` if x, in its turn, and the class shared a name.
-    fn is_costly(&self, x: u32, turn: u32, head: u32) -> bool {
+    pub(crate) fn is_costly(&self, x: u32, turn: u32, head: u32) -> bool {
         if let Some(stamp) = self.stamps.get(head as usize) {
             if *stamp == turn.saturating_add(1) {
                 return true;

@@ -16,10 +16,10 @@ returns-in_ok-open-in-None-clause-state c =
     c.open.new.self.classes.placed.items c.open.new.self.classes.class.items c.open.new.self.classes.shadow.items c.open.new.self.classes.stamps.items c.open.new.self.shadowed c.open.new.self.plain
     made.placed made.class made.shadow made.stamps made.heads
 
-pub returns-then-is_late-clause-state : goal.returns-then-is_late-clause-state
-returns-then-is_late-clause-state c =
+pub returns-then-takes-clause-state : goal.returns-then-takes-clause-state
+returns-then-takes-clause-state c =
     let now = c.args.self.now in
-    let made = c.join-then-is_late.new.self in
-    let joins = c.join-then-is_late.ensures in
+    let made = c.join-then-takes.new.self in
+    let joins = c.join-then-takes.ensures in
     plain-state c.args.func.now c.args.x c.args.turn now.classes.placed.items now.classes.class.items now.classes.shadow.items now.classes.stamps.items now.shadowed now.plain c.requires.looking c.requires.started
     c.in-Some-fitting.head c.in-Some-fitting.ensures.some made.placed.items made.class.items made.shadow.items made.stamps.items joins.placed joins.class joins.shadow joins.stamps c.requires.shadow
