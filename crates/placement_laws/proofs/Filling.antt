@@ -28,7 +28,7 @@ module _ (code : List Instr) (args : ℕ) (sound : AreSitesSound code) {H : Type
     other_home x y c (Unsaved level u) ne =
         let le = opened code sound level branch.to (open_at code level u.out.way.from branch.to u.out.stays) (branch ∷ walk) (at, is) refl in
         let w = way_of_site code sound (branch ∷ walk) (at, is) level y le u.out in
-        placed.kept walk branch x y w.0 w.2 w.1 u.out.way is at w.3 c w.5 u.out.live (subst (λ n. saved n y ≡ false) (sym w.4) u.unsaved) ne
+        placed.kept walk branch x y w.0 w.2 w.1 u.out.way is at w.3 c w.5 u.out.live (subst (λ site. saved site y ≡ false) w.6 u.unsaved) ne
 
   -- ---- the item assigns a location, whose home gets the word of its value
 

@@ -12,7 +12,7 @@ use Rattle.bril_tree.specs.Walk.{IsWalk, end_of}
 use Rattle.bril_tree.proofs.Branches.{branch_from}
 use Rattle.bril_tree.proofs.Members.{in_contains}
 use Rattle.placement_laws.specs.Needed.{IsLiveOut, IsNeeded, IsUnsaved, Live, Unsaved}
-use Rattle.placement_laws.specs.Open.{StaysOpen}
+use Rattle.placement_laws.specs.Open.{StaysOpen, site_left}
 use Rattle.placement_laws.specs.Saved.{HasAllSaved}
 use Rattle.placement_laws.proofs.Opening.{alone, base_kept, open_at, opened, stays_before}
 
@@ -31,7 +31,7 @@ opens_one Keeps site sites level more le = absurd (omega arith)
 
 module _ (code : List Instr) (sound : AreSitesSound code) (saved : ℕ → Location → Bool) (tells : HasAllSaved code saved) where
   module _ (walk : List Branch) (branch : Branch) (is : IsWalk code walk) (at : Contains (branches_at code (end_of walk)) branch) where
-    pub out_before : (level : ℕ) (x : Location) → level ≤ length (sites_of code walk) → IsLiveOut code level branch.to x → IsLiveOut code level (end_of walk) x
+    abbrev pub out_before : (level : ℕ) (x : Location) → level ≤ length (sites_of code walk) → IsLiveOut code level branch.to x → IsLiveOut code level (end_of walk) x
     out_before level x le o = record { way = o.way; out = o.out; stays = stays_before code sound level o.way.from walk branch is at le o.stays; live = o.live }
 
     pub unsaved_before : (level : ℕ) (x : Location) → level ≤ length (sites_of code walk) → IsUnsaved code saved level branch.to x → IsUnsaved code saved level (end_of walk) x
@@ -41,15 +41,15 @@ module _ (code : List Instr) (sound : AreSitesSound code) (saved : ℕ → Locat
     pub unsaved_unassigned : (level : ℕ) (x : Location) → level ≤ length (sites_of code walk) → IsUnsaved code saved level branch.to x → Contains (assigns_at (slice_get code (end_of walk))) x → ⊥
     unsaved_unassigned level x le u c = clash (subst IsTrue u.unsaved told)
       where
-        told : IsTrue (saved level x)
-        told = tells level x (record { way = u.out.way; out = u.out.out; live = u.out.live; walk = walk; is = is; has = le; assigns = c; on = branch; at = at; stays = u.out.stays })
+        told : IsTrue (saved (site_left code level u.out.way u.out.out) x)
+        told = tells (site_left code level u.out.way u.out.out) x (record { level = level; way = u.out.way; out = u.out.out; left = refl; live = u.out.live; walk = walk; is = is; has = le; assigns = c; on = branch; at = at; stays = u.out.stays })
 
         clash : IsTrue false → ⊥
         clash e = cc
 
-    -- the walk opened a site, and the location is live out of it: it is live here
-    pub live_before_opening : (level : ℕ) (x : Location) → length (sites_of code walk) < level → IsLiveOut code level branch.to x → (Contains (assigns_at (slice_get code (end_of walk))) x → ⊥) → IsLive code x (end_of walk)
-    live_before_opening level x more o none =
+    -- the branch opened a site, and a walk leads out of it: that is the item's
+    pub opened_here : (level : ℕ) (x : Location) → length (sites_of code walk) < level → (o : IsLiveOut code level branch.to x) → sites_of code o.out.walk ≡ end_of walk ∷ sites_of code walk
+    opened_here level x more o =
         let has_open = open_at code level o.way.from branch.to o.stays in
         let le = opened code sound level branch.to has_open (branch ∷ walk) (at, is) refl in
         let opens = opens_one (change_of code branch) branch.from (sites_of code walk) level more le in
@@ -59,7 +59,12 @@ module _ (code : List Instr) (sound : AreSitesSound code) (saved : ℕ → Locat
         let kept = base_kept code sound base o.way.from branch.to stays (branch ∷ walk) o.out.walk (at, is) refl (record { newer = []; are = opens.0 }) o.out.is (sym from_guard) in
         let all : sites_of code o.out.walk ≡ base = alone base (sites_of code o.out.walk) kept (o.out.deep ∙ opens.1) in
         let from_here : branch.from ≡ end_of walk = branch_from code (end_of walk) branch (in_contains branch (branches_at code (end_of walk)) at) in
-        Later (end_of walk) o.way (inr (record { aborts = o.out.aborts; walk = o.out.walk; is = o.out.is; at = o.out.at; older = sites_of code walk; sites = all ∙ ap (λ n. n ∷ sites_of code walk) from_here })) none o.live
+        all ∙ ap (λ n. n ∷ sites_of code walk) from_here
+
+    -- a location that is live out of it is live here
+    pub live_before_opening : (level : ℕ) (x : Location) → length (sites_of code walk) < level → IsLiveOut code level branch.to x → (Contains (assigns_at (slice_get code (end_of walk))) x → ⊥) → IsLive code x (end_of walk)
+    live_before_opening level x more o none =
+        Later (end_of walk) o.way (inr (record { aborts = o.out.aborts; walk = o.out.walk; is = o.out.is; at = o.out.at; older = sites_of code walk; sites = opened_here level x more o })) none o.live
 
     -- what the next point needs, and the item doesn't assign, is needed
     pub needed_before : branch.aborts ≡ false → (x : Location) → IsNeeded code saved branch.to x → (Contains (assigns_at (slice_get code (end_of walk))) x → ⊥) → IsNeeded code saved (end_of walk) x

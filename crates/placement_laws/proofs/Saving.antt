@@ -61,18 +61,20 @@ module _ (code : List Instr) (level label barred : ℕ) (arcs : List Arc) (guard
     λ o. stays_reached o.way.from point o.stays (reached_seed arcs guards (other_than barred) o.way.from (all.there o.way o.out o.to)),
   )
 
-module _ (p : Prog) (k : ℕ) (f : Func) (accepted : IsAccepted p) (there : slice_get p.funcs k ≡ Some f) (level : ℕ) (x : Location) where
+module _ (p : Prog) (k : ℕ) (f : Func) (accepted : IsAccepted p) (there : slice_get p.funcs k ≡ Some f) (site : ℕ) (x : Location) where
   -- a guard assigns nothing, so an item that does leads on to it
-  saved_from : (inside : IsAssignedInside f.code level x) (point : ℕ) → StaysOpen f.code level inside.leads.way.from point → Contains (assigns_at (slice_get f.code point)) x → IsSaved f.code level x
+  saved_from : (inside : IsAssignedInside f.code site x) (point : ℕ) → StaysOpen f.code inside.level inside.leads.way.from point → Contains (assigns_at (slice_get f.code point)) x → IsSaved f.code site x
   saved_from inside point (Already _ e o) c =
       let leads = inside.leads in
-      let guard = out_from f.code level leads.way leads.out in
+      let guard = out_from f.code inside.level leads.way leads.out in
       let among = in_contains leads.way (branches_at f.code (end_of leads.out.walk)) leads.out.at in
       let none : assigns_at (slice_get f.code point) ≡ [] = ap (λ n. assigns_at (slice_get f.code n)) (e ∙ guard) ∙ aborting_assigns_nothing p k f accepted there (end_of leads.out.walk) leads.way among leads.out.aborts in
       absurd (in_contains x [] (subst (λ xs. Contains xs x) none c))
   saved_from inside point (Onward _ branch o at rest) c = record {
+    level = inside.level;
     way = inside.leads.way;
     out = inside.leads.out;
+    left = inside.left;
     live = subst (IsLive f.code x) (sym inside.leads.to) inside.live;
     walk = o.walk;
     is = o.is;
@@ -83,12 +85,14 @@ module _ (p : Prog) (k : ℕ) (f : Func) (accepted : IsAccepted p) (there : slic
     stays = rest;
   }
 
-  pub saved_inside : IsSaved f.code level x ↔ IsAssignedInside f.code level x
+  pub saved_inside : IsSaved f.code site x ↔ IsAssignedInside f.code site x
   saved_inside = (
     λ s. record {
+      level = s.level;
       label = s.way.to;
       point = end_of s.walk;
       leads = record { way = s.way; out = s.out; to = refl; stays = Onward (end_of s.walk) s.on (record { walk = s.walk; is = s.is; ends = refl; has = s.has }) s.at s.stays };
+      left = s.left;
       assigns = s.assigns;
       live = s.live;
     },

@@ -1,5 +1,6 @@
 -- The site of a level, and the guards that are its ways out.
 use Rattle.std.proofs.Common.{◌≡◌, ℕ, suc, ◌≤◌, ◌⊎◌, inl, inr, refl, sym, ap, ◌∙◌, subst, arith, List, [], ◌∷◌, ◌++◌, length}
+use Rattle.std.specs.Prelude.{slice_index}
 use Rattle.bril_tree.specs.declared.numbered.Instr.{Instr}
 use Rattle.bril_tree.specs.Edge.{Branch, branches_at}
 use Rattle.bril_tree.specs.Operand.{Location}
@@ -8,7 +9,7 @@ use Rattle.bril_tree.specs.Walk.{IsWalk, end_of}
 use Rattle.bril_tree.proofs.Branches.{branch_from}
 use Rattle.bril_tree.proofs.Members.{in_contains}
 use Rattle.placement_laws.specs.Needed.{IsLiveOut}
-use Rattle.placement_laws.specs.Open.{IsWayOutOf, StaysOpen}
+use Rattle.placement_laws.specs.Open.{IsWayOutOf, StaysOpen, site_left}
 use Rattle.placement_laws.proofs.Opening.{alone, base_kept}
 
 -- the oldest of a list, so many
@@ -32,13 +33,13 @@ split_at level (x ∷ xs) le = split_more level x xs (one_more level (length xs)
 module _ (code : List Instr) (sound : AreSitesSound code) where
   module _ (walk : List Branch) (is : IsWalk code walk) where
     -- the guard to which a walk leads, on which the site stays open, has the site of that level
-    pub way_of_site : (level : ℕ) (x : Location) → level ≤ length (sites_of code walk) → (o : IsLiveOut code level (end_of walk) x) → (newer : List ℕ) × (site : ℕ) × (older : List ℕ) × (sites_of code walk ≡ newer ++ site ∷ older) × (length (site ∷ older) ≡ level) × IsWayOutOf code site older o.way
+    pub way_of_site : (level : ℕ) (x : Location) → level ≤ length (sites_of code walk) → (o : IsLiveOut code level (end_of walk) x) → (newer : List ℕ) × (site : ℕ) × (older : List ℕ) × (sites_of code walk ≡ newer ++ site ∷ older) × (length (site ∷ older) ≡ level) × IsWayOutOf code site older o.way × (site_left code level o.way o.out ≡ site)
     way_of_site level x le o = by s.base s.are s.long
       where
         s : Split level (sites_of code walk)
         s = split_at level (sites_of code walk) le
 
-        by : (base : List ℕ) → sites_of code walk ≡ s.newer ++ base → length base ≡ level → (newer : List ℕ) × (site : ℕ) × (older : List ℕ) × (sites_of code walk ≡ newer ++ site ∷ older) × (length (site ∷ older) ≡ level) × IsWayOutOf code site older o.way
+        by : (base : List ℕ) → sites_of code walk ≡ s.newer ++ base → length base ≡ level → (newer : List ℕ) × (site : ℕ) × (older : List ℕ) × (sites_of code walk ≡ newer ++ site ∷ older) × (length (site ∷ older) ≡ level) × IsWayOutOf code site older o.way × (site_left code level o.way o.out ≡ site)
         by [] are long = let some = o.out.some in absurd (omega arith)
         by (site ∷ older) are long =
             let stays = subst (λ n. StaysOpen code n o.way.from (end_of walk)) (sym long) o.stays in
@@ -54,4 +55,5 @@ module _ (code : List Instr) (sound : AreSitesSound code) where
                 out = record { aborts = o.out.aborts; walk = o.out.walk; is = o.out.is; at = o.out.at; deep = o.out.deep ∙ sym long; some = omega arith };
                 sites = all;
               },
+              ap (λ sites. slice_index sites 0) all,
             )

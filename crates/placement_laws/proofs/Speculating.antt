@@ -1,6 +1,6 @@
 -- A speculation begins, and is taken back.
 use Rattle.std.proofs.Common.{◌≡◌, ◌≢◌, ℕ, suc, ◌≤◌, Bool, true, false, refl, sym, ap, ◌∙◌, subst, arith, List, ◌∷◌, length, le_trans, Some}
-use Rattle.std.specs.Prelude.{slice_get}
+use Rattle.std.specs.Prelude.{slice_get, slice_index}
 use Rattle.std.specs.List.{Contains}
 use Rattle.bril_tree.specs.declared.numbered.Instr.{Instr}
 use Rattle.bril_tree.specs.declared.value.Value.{Value}
@@ -17,18 +17,18 @@ use Rattle.bril_tree.proofs.Branches.{aborts-close, branch_from}
 use Rattle.bril_tree.proofs.Members.{in_contains}
 use Rattle.placement_laws.specs.Holding.{FrameHolds}
 use Rattle.placement_laws.specs.Needed.{IsLiveOut, IsNeeded, IsUnsaved, Live, Unsaved}
-use Rattle.placement_laws.specs.Open.{Already}
+use Rattle.placement_laws.specs.Open.{Already, newest_site, site_left}
 use Rattle.placement_laws.specs.Placed.{IsPlaced}
 use Rattle.placement_laws.specs.Saved.{HasAllSaved}
-use Rattle.placement_laws.proofs.Needing.{live_before_opening, unsaved_before, without_most}
+use Rattle.placement_laws.proofs.Needing.{live_before_opening, opened_here, unsaved_before, without_most}
 use Rattle.placement_laws.proofs.Opening.{open_at, opened}
 use Rattle.placement_laws.proofs.Steady.{homes_on, saves_on, steady_on, steady_back}
 
 module _ (code : List Instr) (args : ℕ) (sound : AreSitesSound code) {H : Type 0} (homes : Location → H) (saved : ℕ → Location → Bool) (tells : HasAllSaved code saved) (placed : IsPlaced code args homes saved) (Has : Value → ℕ → Type 0)
     (walk : List Branch) (branch : Branch) (is : IsWalk code walk) (at : Contains (branches_at code (end_of walk)) branch) where
-  -- A `speculate`: each location that is live here, and has a shadow word at the new level, got its word there.
+  -- A `speculate`: each location that is live here, and that it saves, got its word in its shadow word of the new level.
   pub speculates : branch.aborts ≡ false → ((x : Location) → Contains (assigns_at (slice_get code (end_of walk))) x → ⊥) → (locations : Locals) (saves : List Locals) (word : H → ℕ) (shadow after : ℕ → Location → ℕ) → length saves ≡ length (sites_of code walk) →
-      ((x : Location) → IsLive code x (end_of walk) → saved (suc (length saves)) x ≡ true → after (suc (length saves)) x ≡ word (homes x)) →
+      ((x : Location) → IsLive code x (end_of walk) → saved (end_of walk) x ≡ true → after (suc (length saves)) x ≡ word (homes x)) →
       ((level : ℕ) (x : Location) → 1 ≤ level → level ≤ length saves → IsLiveOut code level branch.to x → after level x ≡ shadow level x) →
       FrameHolds code homes saved Has (end_of walk) locations saves word shadow → FrameHolds code homes saved Has branch.to locations (locations ∷ saves) word after
   speculates plain none locations saves word shadow after deep copied same h = record {
@@ -37,15 +37,16 @@ module _ (code : List Instr) (args : ℕ) (sound : AreSitesSound code) {H : Type
     steady = (λ level x le u. refl, steady_on code sound homes saved tells Has walk branch is at locations locations saves (omega arith) (λ x n. refl) h.steady);
   }
     where
-      new : (x : Location) (v : Value) → IsLiveOut code (suc (length saves)) branch.to x → saved (suc (length saves)) x ≡ true → location_value locations x ≡ Some v → Has v (after (suc (length saves)) x)
+      new : (x : Location) (v : Value) → (o : IsLiveOut code (suc (length saves)) branch.to x) → saved (site_left code (suc (length saves)) o.way o.out) x ≡ true → location_value locations x ≡ Some v → Has v (after (suc (length saves)) x)
       new x v o told held =
           let live = live_before_opening code sound saved tells walk branch is at (suc (length saves)) x (omega arith) o (none x) in
-          subst (Has v) (sym (copied x live told)) (h.homes_hold.at x v (Live live) held)
+          let own : site_left code (suc (length saves)) o.way o.out ≡ end_of walk = ap (λ sites. slice_index sites 0) (opened_here code sound saved tells walk branch is at (suc (length saves)) x (omega arith) o) in
+          subst (Has v) (sym (copied x live (subst (λ site. saved site x ≡ true) own told))) (h.homes_hold.at x v (Live live) held)
 
-  -- A guard fails: each location that is live at its label, and has a shadow word, got its word back at its home, and no other home
-  -- changed.
+  -- A guard fails: each location that is live at its label, and that its newest speculation saved, got its word back at its home, and
+  -- no other home changed.
   pub aborts : branch.aborts ≡ true → (locations newest : Locals) (saves : List Locals) (word after : H → ℕ) (shadow : ℕ → Location → ℕ) (back : Location → Bool) → suc (length saves) ≡ length (sites_of code walk) →
-      ((x : Location) → back x ≡ true → IsLive code x branch.to × (saved (suc (length saves)) x ≡ true)) → ((x : Location) → IsLive code x branch.to → saved (suc (length saves)) x ≡ true → back x ≡ true) →
+      ((x : Location) → back x ≡ true → IsLive code x branch.to × (saved (newest_site code walk) x ≡ true)) → ((x : Location) → IsLive code x branch.to → saved (newest_site code walk) x ≡ true → back x ≡ true) →
       ((x : Location) → back x ≡ true → after (homes x) ≡ shadow (suc (length saves)) x) →
       ((x : Location) → IsNeeded code saved branch.to x → ((y : Location) → back y ≡ true → homes y ≢ homes x) → after (homes x) ≡ word (homes x)) →
       FrameHolds code homes saved Has (end_of walk) locations (newest ∷ saves) word shadow → FrameHolds code homes saved Has branch.to newest saves after shadow
@@ -90,12 +91,12 @@ module _ (code : List Instr) (args : ℕ) (sound : AreSitesSound code) {H : Type
       put : (x : Location) (v : Value) → back x ≡ true → location_value newest x ≡ Some v → Has v (after (homes x))
       put x v told held = let b = backs x told in subst (Has v) (sym (restored x told)) (h.saves_hold.0 x v (out x b.0) b.1 held)
 
-      live_left : (x : Location) (v : Value) → IsLive code x branch.to → back x ≡ false → (b : Bool) → saved (suc (length saves)) x ≡ b → location_value newest x ≡ Some v → Has v (after (homes x))
+      live_left : (x : Location) (v : Value) → IsLive code x branch.to → back x ≡ false → (b : Bool) → saved (newest_site code walk) x ≡ b → location_value newest x ≡ Some v → Has v (after (homes x))
       live_left x v live not_put true told held = absurd (not_both (back x) not_put (all_back x live told))
       live_left x v live not_put false told held = unmoved x v (Live live) (suc (length saves)) (omega arith) (record { out = out x live; unsaved = told }) not_put held
 
       left : (x : Location) (v : Value) → IsNeeded code saved branch.to x → back x ≡ false → location_value newest x ≡ Some v → Has v (after (homes x))
-      left x v (Live live) not_put held = live_left x v live not_put (saved (suc (length saves)) x) refl held
+      left x v (Live live) not_put held = live_left x v live not_put (saved (newest_site code walk) x) refl held
       left x v (Unsaved m u) not_put held =
           let deeper = opened code sound m branch.to (open_at code m u.out.way.from branch.to u.out.stays) (branch ∷ walk) (at, is) refl in
           let le : m ≤ length (sites_of code walk) = le_trans deeper fewer in

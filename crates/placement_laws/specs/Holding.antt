@@ -6,6 +6,7 @@ use Rattle.bril_tree.specs.Locals.{location_value}
 use Rattle.bril_tree.specs.Operand.{Location}
 use Rattle.bril_tree.specs.State.{Locals}
 use Rattle.placement_laws.specs.Needed.{IsLiveOut, IsNeeded, IsUnsaved}
+use Rattle.placement_laws.specs.Open.{site_left}
 
 -- `Has v w`: w is the word of the value v
 module _ (code : List Instr) {H : Type 0} (homes : Location → H) (saved : ℕ → Location → Bool) (Has : Value → ℕ → Type 0) where
@@ -13,11 +14,12 @@ module _ (code : List Instr) {H : Type 0} (homes : Location → H) (saved : ℕ 
   pub record HomesHold (point : ℕ) (locations : Locals) (word : H → ℕ) : Type 0 where
     pub at : (x : Location) (v : Value) → IsNeeded code saved point x → location_value locations x ≡ Some v → Has v (word (homes x))
 
-  -- each save has the words of the locations that are live out at its level and have a shadow word there
+  -- each save has the words of the locations that are live out at its level and have a shadow word of the speculation that they
+  -- leave
   abbrev pub SavesHold : ℕ → List Locals → (ℕ → Location → ℕ) → Type 0
   SavesHold point [] shadow = Unit {0}
   SavesHold point (save ∷ older) shadow =
-      ((x : Location) (v : Value) → IsLiveOut code (suc (length older)) point x → saved (suc (length older)) x ≡ true → location_value save x ≡ Some v → Has v (shadow (suc (length older)) x))
+      ((x : Location) (v : Value) → (o : IsLiveOut code (suc (length older)) point x) → saved (site_left code (suc (length older)) o.way o.out) x ≡ true → location_value save x ≡ Some v → Has v (shadow (suc (length older)) x))
       × SavesHold point older shadow
 
   -- a location that is live out of an open speculation without a shadow word still holds what it held when that speculation, and

@@ -14,7 +14,7 @@ use Rattle.graph_search.specs.Path.{IsReached, other_than}
 use Rattle.slot_code.specs.declared.slots.SlotFunction.{SlotFunction}
 use Rattle.slot_code.specs.Lowered.{IsLoweredFunction}
 use Rattle.placement_laws.specs.Homes.{HaveOwnHomes, IsSlotIn}
-use Rattle.placement_laws.specs.Open.{LeadsOut}
+use Rattle.placement_laws.specs.Open.{LeadsOut, site_left}
 use Rattle.placement_laws.specs.Placed.{IsPlaced, LiveApart}
 use Rattle.placement_laws.specs.Saved.{IsSaved}
 use Rattle.placement_laws.specs.Search.{AreGuards, AreOpenArcs}
@@ -35,18 +35,20 @@ abbrev pub DifferentHomesArePlaced : Type 0
 DifferentHomesArePlaced = (p : Prog) (k : ℕ) (f : Func) (g : SlotFunction) → IsAccepted p → slice_get p.funcs k ≡ Some f → IsLoweredFunction f g →
     (homes : Location → Home) (saved : ℕ → Location → Bool) → HaveOwnHomes g homes → IsPlaced f.code f.args homes saved
 
--- some item assigns the location from which a walk, on which the site stays open, leads to a guard where it is live
-pub record IsAssignedInside (code : List Instr) (level : ℕ) (x : Location) : Type 0 where
+-- some item assigns the location from which a walk, on which the site stays open, leads to a guard of that site where it is live
+pub record IsAssignedInside (code : List Instr) (site : ℕ) (x : Location) : Type 0 where
+  pub level : ℕ
   pub label : ℕ
   pub point : ℕ
   pub leads : LeadsOut code level label point
+  pub left : site_left code level leads.way leads.out ≡ site
   pub assigns : Contains (assigns_at (slice_get code point)) x
   pub live : IsLive code x label
 
 -- exactly those locations are saved
 abbrev pub SavedAreAssignedInside : Type 0
 SavedAreAssignedInside = (p : Prog) (k : ℕ) (f : Func) → IsAccepted p → slice_get p.funcs k ≡ Some f →
-    (level : ℕ) (x : Location) → IsSaved f.code level x ↔ IsAssignedInside f.code level x
+    (site : ℕ) (x : Location) → IsSaved f.code site x ↔ IsAssignedInside f.code site x
 
 -- a search back from the guards of a label finds exactly the points from which such walks lead to them
 abbrev pub ReachedLeadOut : Type 0

@@ -1,6 +1,6 @@
 -- Walks on which an open speculation stays open, and its ways out. A level counts the open sites, of which the oldest has
 -- level 1.
-use Rattle.std.specs.Prelude.{◌≡◌, ℕ, ◌≤◌, true, List, ◌∷◌, length}
+use Rattle.std.specs.Prelude.{◌≡◌, ℕ, ◌≤◌, true, List, ◌∷◌, length, slice_index}
 use Rattle.std.specs.List.{Contains}
 use Rattle.bril_tree.specs.declared.numbered.Instr.{Instr}
 use Rattle.bril_tree.specs.Edge.{Branch, branches_at}
@@ -27,6 +27,14 @@ pub record IsWayOut (code : List Instr) (level : ℕ) (way : Branch) : Type 0 wh
   pub at : Contains (branches_at code (end_of walk)) way
   pub deep : length (sites_of code walk) ≡ level
   pub some : 1 ≤ level
+
+-- the newest open site of a walk
+abbrev pub newest_site : List Instr → List Branch → ℕ
+newest_site code walk = slice_index (sites_of code walk) 0
+
+-- the site that a way out leaves: the newest one of its guard
+abbrev pub site_left : (code : List Instr) (level : ℕ) (way : Branch) → IsWayOut code level way → ℕ
+site_left code level way out = newest_site code out.walk
 
 -- the guard of the way out has these open sites, the newest first
 pub record IsWayOutOf (code : List Instr) (site : ℕ) (older : List ℕ) (way : Branch) : Type 0 where

@@ -1,5 +1,5 @@
 -- What homes promise: where a location gets a value, none is lost that is needed.
-use Rattle.std.specs.Prelude.{◌≡◌, ◌≢◌, ℕ, ◌<◌, Bool, false, List, ◌++◌, ◌∷◌, length, slice_get}
+use Rattle.std.specs.Prelude.{◌≡◌, ◌≢◌, ℕ, ◌<◌, Bool, false, List, ◌++◌, ◌∷◌, slice_get}
 use Rattle.std.specs.List.{Contains}
 use Rattle.bril_tree.specs.declared.numbered.Instr.{Instr}
 use Rattle.bril_tree.specs.Assigned.{assigns_at}
@@ -23,10 +23,10 @@ module _ (code : List Instr) (args : ℕ) {H : Type 0} (homes : Location → H) 
   NoArgumentClash = (k : ℕ) (y : Location) → k < args → IsLive code y 0 → y ≢ Variable k → homes y ≢ homes (Variable k)
 
   -- While a site is open, no item assigns a location whose home is that of another one which is live at the label of a guard
-  -- of the site and isn't saved at its level.
+  -- of the site and isn't saved by its speculation.
   abbrev pub NoOpenClash : Type 0
   NoOpenClash = (walk : List Branch) (branch : Branch) (x y : Location) (newer older : List ℕ) (site : ℕ) (way : Branch) → IsWalk code walk → Contains (branches_at code (end_of walk)) branch →
-      sites_of code (branch ∷ walk) ≡ newer ++ site ∷ older → Contains (assigns_at (slice_get code (end_of walk))) x → IsWayOutOf code site older way → IsLive code y way.to → saved (length (site ∷ older)) y ≡ false → y ≢ x → homes y ≢ homes x
+      sites_of code (branch ∷ walk) ≡ newer ++ site ∷ older → Contains (assigns_at (slice_get code (end_of walk))) x → IsWayOutOf code site older way → IsLive code y way.to → saved site y ≡ false → y ≢ x → homes y ≢ homes x
 
   -- two locations that one point needs have two homes
   abbrev pub NeededApart : Type 0

@@ -10,8 +10,8 @@ pub fn homes_are_placed()
     ensures live { SeparateHomesAreApart }
 {}
 
-/// A location is saved at a level exactly where some item assigns it from which a walk, on which the speculation stays
-/// open, leads to a guard at whose label it is live; and a search back from the guards of a label finds exactly the points
+/// A speculation saves a location exactly where some item assigns it from which a walk, on which that speculation stays
+/// open, leads to a guard of it at whose label it is live; and a search back from the guards of a label finds exactly the points
 /// from which such walks lead to them.
 pub fn saved_are_found()
     ensures saved { SavedAreAssignedInside }

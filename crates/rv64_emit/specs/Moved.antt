@@ -9,7 +9,7 @@ use Rattle.rv64_emit.specs.declared.moved.Moved.{Moved}
 use Rattle.rv64_emit.specs.declared.moved.Moved.TheVariants.{Kept, TakenBack, Outliving, Loaded}
 
 abbrev pub is_moved : FunctionHomes → SlotFunction → Moved → Slot → Bool
-is_moved homes g (Kept point) slot = is_kept homes g point slot
+is_moved homes g (Kept point) slot = is_kept homes point slot
 is_moved homes g (TakenBack point label) slot = is_taken_back homes g point label slot
 is_moved homes g (Outliving point dest) slot = outlives homes point dest slot
 is_moved homes g Loaded slot = is_loaded homes g slot

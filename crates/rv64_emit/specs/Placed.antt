@@ -34,7 +34,7 @@ is_leaf_if (Some g) = list_all calls_none g.code
 abbrev pub function_homes : (marked leaf : Bool) → Placed → List Live → ℕ → FunctionHomes
 function_homes marked leaf placed lives f = record {
   home = λ slot. home_in placed f (slot_location slot);
-  saved = λ level slot. is_saved_in placed f level (slot_location slot);
+  saved = λ site slot. is_saved_in placed f site (slot_location slot);
   live = λ point slot. is_live_if (slice_get lives f) point slot;
   given = λ function k. if is_live_if (slice_get lives function) 0 (Variable k) then Some (home_in placed function (slot_location (Variable k))) else None;
   leaf = leaf;

@@ -20,7 +20,7 @@ abbrev pub home_at : FunctionHomes → Location → Home
 home_at homes location = homes.home (slot_of location)
 
 abbrev pub saved_at : FunctionHomes → ℕ → Location → Bool
-saved_at homes level location = homes.saved level (slot_of location)
+saved_at homes site location = homes.saved site (slot_of location)
 
 abbrev pub live_at : FunctionHomes → ℕ → Location → Bool
 live_at homes point location = homes.live point (slot_of location)

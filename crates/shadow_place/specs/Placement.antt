@@ -20,8 +20,7 @@ use Rattle.shadow_place.specs.declared.analyses.Analyses.{Analyses}
 use Rattle.shadow_place.specs.declared.placed.FunctionHomes.{FunctionHomes}
 use Rattle.shadow_place.specs.declared.placed.Placed.{Placed}
 use Rattle.shadow_place.specs.Registers.{home_registers}
-use Rattle.graph_search.specs.Marks.{is_marked}
-use Rattle.shadow_place.specs.Tables.{home_in, home_of, is_saved_in, is_saved_of}
+use Rattle.shadow_place.specs.Tables.{home_in, home_of, is_marked_if, is_saved_in, is_saved_of}
 
 -- the table is that of the function
 abbrev pub TellsLiveIn : Func → Live → Type 0
@@ -44,14 +43,9 @@ pub record AreAnalyses (a : Analyses) : Type 0 where
 
 -- ---- one function
 
--- the row marks exactly the locations that are saved at the level
-abbrev pub IsSavedRow : List Instr → ℕ → List Bool → Type 0
-IsSavedRow code level row = (x : Location) → IsTrue (is_marked row (number_of x)) ↔ IsSaved code level x
-
--- the rows are those of so many levels, from 0
-pub record AreSavedRows (code : List Instr) (many : ℕ) (rows : List (List Bool)) : Type 0 where
-  pub long : length rows ≡ many
-  pub at : (level : ℕ) (row : List Bool) → slice_get rows level ≡ Some row → IsSavedRow code level row
+-- the rows, one for each point or none at all, mark exactly the locations that the speculations of `speculate` items save
+abbrev pub AreSavedRows : List Instr → List (List Bool) → Type 0
+AreSavedRows code rows = (site : ℕ) (x : Location) → IsTrue (is_marked_if (slice_get rows site) (number_of x)) ↔ IsSaved code site x
 
 -- The homes and what is saved are a placement of the function.
 pub record IsPlacement (f : Func) (g : SlotFunction) (homes : FunctionHomes) : Type 0 where
@@ -72,7 +66,7 @@ HomesAreApart p placed = (k : ℕ) (f : Func) → slice_get p.funcs k ≡ Some f
 abbrev pub LiveAreApart : Prog → Placed → Type 0
 LiveAreApart p placed = (k : ℕ) (f : Func) → slice_get p.funcs k ≡ Some f → LiveApart f.code (home_in placed k)
 
--- exactly those locations have a shadow word at a level that are saved there
+-- exactly those locations have a shadow word of a speculation that it saves
 abbrev pub TellsAllSaved : Prog → Placed → Type 0
 TellsAllSaved p placed = (k : ℕ) (f : Func) → slice_get p.funcs k ≡ Some f → TellsSaved f.code (is_saved_in placed k)
 

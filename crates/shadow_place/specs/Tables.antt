@@ -22,22 +22,22 @@ abbrev pub is_marked_if : Option (List Bool) → ℕ → Bool
 is_marked_if None number = false
 is_marked_if (Some row) number = is_marked row number
 
--- whether a location is saved at a level in a function with these homes
+-- whether the speculation of a site saves a location in a function with these homes
 abbrev pub is_saved_of : FunctionHomes → ℕ → Location → Bool
-is_saved_of homes level x = is_marked_if (slice_get homes.saved.items level) (number_of x)
+is_saved_of homes site x = is_marked_if (slice_get homes.saved.items site) (number_of x)
 
 abbrev pub home_in_row : Option FunctionHomes → Location → Home
 home_in_row None x = Frame 0
 home_in_row (Some homes) x = home_of homes x
 
 abbrev pub is_saved_in_row : Option FunctionHomes → ℕ → Location → Bool
-is_saved_in_row None level x = false
-is_saved_in_row (Some homes) level x = is_saved_of homes level x
+is_saved_in_row None site x = false
+is_saved_in_row (Some homes) site x = is_saved_of homes site x
 
 -- the home of a location in the function of a number
 abbrev pub home_in : Placed → ℕ → Location → Home
 home_in placed func x = home_in_row (slice_get placed.funcs.items func) x
 
--- whether it is saved there at a level
+-- whether the speculation of a site saves it there
 abbrev pub is_saved_in : Placed → ℕ → ℕ → Location → Bool
-is_saved_in placed func level x = is_saved_in_row (slice_get placed.funcs.items func) level x
+is_saved_in placed func site x = is_saved_in_row (slice_get placed.funcs.items func) site x

@@ -5,5 +5,6 @@ pub mod Operands
 pub mod Places
 pub mod Points
 pub mod Rows
+pub mod Sites
 pub mod Steps
 pub mod Uses

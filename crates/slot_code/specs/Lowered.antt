@@ -118,6 +118,17 @@ pub record AreDepths (code : List Instr) (depths : List ℕ) : Type 0 where
   pub is : IsGraphOf code graph
   pub are : depths ≡ map open_count graph.sites
 
+-- the newest of open sites, 0 where none is open
+abbrev pub newest_open : Option (List ℕ) → ℕ
+newest_open None = 0
+newest_open (Some sites) = slice_index sites 0
+
+-- the newest open site at each point
+pub record AreNewestSites (code : List Instr) (newest : List ℕ) : Type 0 where
+  pub graph : GraphView
+  pub is : IsGraphOf code graph
+  pub are : newest ≡ map newest_open graph.sites
+
 -- It is the code of this function over slots.
 pub record IsLoweredFunction (f : Func) (g : SlotFunction) : Type 0 where
   pub args : g.args ≡ f.args
@@ -126,6 +137,7 @@ pub record IsLoweredFunction (f : Func) (g : SlotFunction) : Type 0 where
   pub shadow_numbers : g.shadow_numbers ≡ map (shadow_number g.variables (is_used g.code)) (range_with_len 0 g.variables)
   pub count : length g.slots ≡ location_count f
   pub depths : AreDepths f.code g.depths
+  pub newest : AreNewestSites f.code g.newest
   pub words : AreFrameWords f g.words
   pub code : g.code ≡ map (lowered_item f) f.code
 

@@ -5,8 +5,9 @@
 //!    assign and where they go (`specs/Flow.antt`).
 //! 2. Items, functions and programs over slots (`src/item.rt`, `src/slots.rt`).
 //! 3. From a program to its code (`src/program.rt`, `src/items.rt`), by groups of operations (`src/operations.rt`,
-//!    `src/effects.rt`), with how many speculations are open at a point (`src/depths.rt`), what printed variables hold
-//!    (`src/kinds.rt`), the slots and their numbers (`src/numbering.rt`), and the values of constants (`src/numbers.rt`).
+//!    `src/effects.rt`), with how many speculations are open at a point and which is the newest (`src/depths.rt`), what printed
+//!    variables hold (`src/kinds.rt`), the slots and their numbers (`src/numbering.rt`), and the values of constants
+//!    (`src/numbers.rt`).
 //! 4. Laws: slots are numbered; items go, assign and read as their instructions (`specs/Laws.antt`, `src/laws.rt`).
 #![tactic(auto)]
 

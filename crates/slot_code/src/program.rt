@@ -13,13 +13,14 @@ ghost use Rattle.bril_tree.specs.Step.{step};
 ghost use Rattle.slot_code.specs.Lowered.{IsLowered, IsLoweredFunction};
 ghost use Rattle.slot_code.specs.Meaning.{slot_step, slot_state_after};
 
-use crate::depths::depths_of;
+use crate::depths::{depths_of, newest_of};
 use crate::items::lower_items;
 use crate::numbering::{all_slots, shadow_numbers, used_shadows};
 use crate::slots::{SlotFunction, Slots};
 use bril_checker::Checked;
 use bril_tree::numbered_function::Func;
 use bril_tree::sequence::Seq;
+use flow_graph::Graph;
 use std::alloc::{AllocError, Global};
 
 /// The code over slots of an accepted program: its functions in their order, each item with the numbers of its variables and
@@ -61,12 +62,14 @@ fn lower_function(alloc: Global, func: &Func, words: u64) -> Result<SlotFunction
     let code = lower_items(alloc, func, points.as_slice())?;
     let variables = func.vars.as_slice().len();
     let used = used_shadows(alloc, variables, code.as_slice())?;
+    let graph = Graph::of_sound(alloc, func)?;
     Ok(SlotFunction {
         args: func.args,
         variables,
         slots: all_slots(alloc, used.as_slice())?,
         shadow_numbers: shadow_numbers(alloc, used.as_slice())?,
-        depths: depths_of(alloc, func)?,
+        depths: depths_of(alloc, func, &graph)?,
+        newest: newest_of(alloc, func, &graph)?,
         words,
         code,
     })

@@ -9,8 +9,9 @@ use bril_tree::sequence::Seq;
 /// A function. Its first `args` variables are its arguments. Its slots are its variables and then the shadows that its items
 /// use, numbered from 0 in the order of `slots`; a `speculate` saves all of them, and an abort restores all of them.
 /// `shadow_numbers` has for each variable the number of its shadow, if some item uses that. `depths` has for each point, the
-/// function's end last, how many speculations are open there, 0 where no walk leads. A frame has `words` words of 64 bits:
-/// two, and one for each slot as it is and as it was at each open speculation.
+/// function's end last, how many speculations are open there, 0 where no walk leads, and `newest` the `speculate` of the newest of
+/// them, 0 where none is open. A frame has `words` words of 64 bits: two, and one for each slot as it is and as it was at each open
+/// speculation.
 #[derive(Drop)]
 pub struct SlotFunction {
     pub args: u32,
@@ -18,6 +19,7 @@ pub struct SlotFunction {
     pub slots: Seq<Slot>,
     pub shadow_numbers: Seq<usize>,
     pub depths: Seq<usize>,
+    pub newest: Seq<u32>,
     pub words: u64,
     pub code: Seq<SlotItem>,
 }

@@ -25,9 +25,13 @@ level_word g level = frame_head + length g.slots * level
 abbrev pub depth_at : SlotFunction → ℕ → ℕ
 depth_at g point = slice_index g.depths point
 
+-- the `speculate` of the newest of them
+abbrev pub newest_at : SlotFunction → ℕ → ℕ
+newest_at g point = slice_index g.newest point
+
 -- ---- homes
 
--- Of one function: where each slot is, whether a speculation of a level, from 1, keeps it, and whether it is live at a point;
+-- Of one function: where each slot is, whether the speculation of a `speculate`, by its point, keeps it, and whether it is live at a point;
 -- where a function has its argument of a number, from 0, as it begins, if it is live there; whether this one is a leaf, which calls no
 -- function, so that its way back stays in register 1; and whether items are marked, which then have a word each, also those for which
 -- nothing is to be done, but for labels and `nop`.
@@ -81,16 +85,16 @@ abbrev pub is_argument : SlotFunction → Slot → Bool
 is_argument g (Variable x) = nat_lt x g.args
 is_argument g (Shadow x) = false
 
--- what the `speculate` at a point keeps: what its level keeps and is live there
-abbrev pub is_kept : FunctionHomes → SlotFunction → ℕ → Slot → Bool
-is_kept homes g point slot = homes.saved (suc (depth_at g point)) slot && homes.live point slot
+-- what the `speculate` at a point keeps: what its speculation keeps and is live there
+abbrev pub is_kept : FunctionHomes → ℕ → Slot → Bool
+is_kept homes point slot = homes.saved point slot && homes.live point slot
 
 abbrev pub speculate_moves : FunctionHomes → SlotFunction → ℕ → List Move
-speculate_moves homes g point = moves_of homes g (level_word g (suc (depth_at g point))) (is_kept homes g point)
+speculate_moves homes g point = moves_of homes g (level_word g (suc (depth_at g point))) (is_kept homes point)
 
--- what a guard at a point takes back: what its level keeps and is live at the guard's label
+-- what a guard at a point takes back: what the newest speculation keeps and is live at the guard's label
 abbrev pub is_taken_back : FunctionHomes → SlotFunction → ℕ → ℕ → Slot → Bool
-is_taken_back homes g point label slot = homes.saved (depth_at g point) slot && homes.live label slot
+is_taken_back homes g point label slot = homes.saved (newest_at g point) slot && homes.live label slot
 
 abbrev pub guard_moves : FunctionHomes → SlotFunction → ℕ → ℕ → List Move
 guard_moves homes g point label = moves_of homes g (level_word g (depth_at g point)) (is_taken_back homes g point label)

@@ -28,6 +28,7 @@ returns c =
       shadow_numbers = numbers_are n (is_used code) c.as_slice-4.result.now (c.as_slice-4.ensures.value ∙ used) c.in_ok-shadow_numbers.field-0 c.in_ok-shadow_numbers.ensures;
       count = ap length slots ∙ ap (λ k. length (slots_in k (is_used code))) many ∙ ap (λ l. length (slots_in (length f.vars) (is_used l))) c.in_ok-code.ensures ∙ as_many_slots f;
       depths = c.in_ok-depths_of.ensures;
+      newest = c.in_ok-newest_of.ensures;
       words = c.requires.words;
       code = c.in_ok-code.ensures;
     }
