@@ -6,7 +6,7 @@ use bril_checker::Checked;
 use bril_tree::home::Home;
 use case_text::{LineFault, add_unescaped, checked_of};
 use shadow_place::{Placed, all_lives, place};
-use slot_code::{Slot, lower};
+use slot_code::{Slot, SlotFunction, lower};
 use std::alloc::{AllocError, Global};
 
 // A source has no more bytes.
@@ -52,7 +52,7 @@ impl Seen {
 }
 
 /// Places the locations of a source's program, and appends of the first function how many slots are in registers, how many in
-/// words of the frame, and how many are saved at each level. The line has how often the program is placed, a count, and the
+/// words of the frame, and how many each of its speculations saves. The line has how often the program is placed, a count, and the
 /// source in pieces with bars between them, each second of which stands so many times, `\#` being 0, 1 and so on.
 pub fn add_counted(alloc: Global, line: &str, shown: &mut Vec<u8>) -> Result<(), LineFault> {
     let (times, rest) = line.split_once(' ').ok_or(LineFault::Form)?;
@@ -81,20 +81,21 @@ fn add_placements(
     let Some(lowered) = slots.funcs.as_slice().first() else {
         return Err(LineFault::Form);
     };
-    add_counts(alloc, &placed, lowered.slots.as_slice(), shown)?;
+    add_counts(alloc, &placed, lowered, shown)?;
     Ok(())
 }
 
-// Appends where the slots are, and which are saved at each level.
+// Appends where a function's slots are, and which of them each of its speculations saves.
 fn add_counts(
     alloc: Global,
     placed: &Placed,
-    slots: &[Slot],
+    lowered: &SlotFunction,
     shown: &mut Vec<u8>,
 ) -> Result<(), AllocError> {
+    let slots = lowered.slots.as_slice();
     add_homes(alloc, placed, slots, shown)?;
-    for level in 1..9 {
-        add_saved(alloc, placed, slots, level, shown)?;
+    for point in 0..lowered.code.as_slice().len() {
+        add_saved(alloc, placed, slots, point as u32, shown)?;
     }
     Ok(())
 }
@@ -150,18 +151,18 @@ fn add_homes(
     words.show(alloc, "words of the frame", shown)
 }
 
-// Appends the numbers of the slots that are saved at a level, where some are.
+// Appends the numbers of the slots that the speculation of the `speculate` at a point saves, where it saves some.
 fn add_saved(
     alloc: Global,
     placed: &Placed,
     slots: &[Slot],
-    level: u32,
+    site: u32,
     shown: &mut Vec<u8>,
 ) -> Result<(), AllocError> {
     let mut saved = Seen::none();
     let mut number = 0u32;
     for slot in slots {
-        if placed.saved(0, level, place_of(*slot)) {
+        if placed.saved(0, site, place_of(*slot)) {
             saved.take(number);
         }
         number = number.saturating_add(1);
@@ -169,6 +170,6 @@ fn add_saved(
     if saved.count == 0 {
         return Ok(());
     }
-    let name = format!(in alloc; "saved at level {level}")?;
+    let name = format!(in alloc; "saved by speculate {site}")?;
     saved.show(alloc, name.as_str(), shown)
 }

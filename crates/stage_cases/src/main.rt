@@ -20,10 +20,10 @@
 //     graph SOURCE           of the first function's flow graph the edges, from, leaving and to; and of each point the open
 //                            sites, the newest first, and where the edges to it come from
 //     live SOURCE            of each point of the first function the variables and the shadows that are live there
-//     placed SOURCE          the home of each location of the first function, and for each level what speculations save there
+//     placed SOURCE          the home of each location of the first function, and what each of its speculations saves
 //     counted TIMES COUNT PIECE|PIECE|..
-//                            of the first function how many locations are in registers and in words of the frame, and how many are
-//                            saved at each level, where the source is these pieces, each second one COUNT times with its number,
+//                            of the first function how many locations are in registers and in words of the frame, and how many each of
+//                            its speculations saves, where the source is these pieces, each second one COUNT times with its number,
 //                            from 0, for `\#`; placed so many times, for a clock
 //     groups SOURCE          the words of the image of the source's program with which groups begin, each by its number and the name
 //                            of the group

@@ -10,10 +10,10 @@ use bril_tree::numbered::VarInfo;
 use bril_tree::place::Place;
 use case_text::{LineFault, checked_of};
 use shadow_place::{Placed, all_lives, place};
-use slot_code::{Slot, lower};
+use slot_code::{Slot, SlotFunction, lower};
 use std::alloc::{AllocError, Global};
 
-/// Appends the home of each location of the first function of the source's program, and what is saved at each level.
+/// Appends the home of each location of the first function of the source's program, and what each of its speculations saves.
 pub fn add_placed(alloc: Global, source: &[u8], shown: &mut Vec<u8>) -> Result<(), LineFault>
     requires { length source.now < 2 ^ 32 }
 {
@@ -35,23 +35,24 @@ fn add_first(
     let Some(lowered) = slots.funcs.as_slice().first() else {
         return Err(LineFault::Form);
     };
-    add_slots(alloc, &placed, vars, lowered.slots.as_slice(), shown)?;
+    add_slots(alloc, &placed, vars, lowered, shown)?;
     Ok(())
 }
 
-// Appends the homes of slots, and which of them are saved at each level.
+// Appends the homes of a function's slots, and which of them each of its speculations saves.
 fn add_slots(
     alloc: Global,
     placed: &Placed,
     vars: &[VarInfo],
-    slots: &[Slot],
+    lowered: &SlotFunction,
     shown: &mut Vec<u8>,
 ) -> Result<(), AllocError> {
+    let slots = lowered.slots.as_slice();
     for slot in slots {
         add_home(alloc, placed, vars, *slot, shown)?;
     }
-    for level in 1..9 {
-        add_level(alloc, placed, vars, slots, level, shown)?;
+    for point in 0..lowered.code.as_slice().len() {
+        add_site(alloc, placed, vars, slots, point as u32, shown)?;
     }
     Ok(())
 }
@@ -81,25 +82,25 @@ fn add_home(
     add_line("", shown)
 }
 
-// Appends a line with the slots that are saved at a level, where some are.
-fn add_level(
+// Appends a line with the slots that the speculation of the `speculate` at a point saves, where it saves some.
+fn add_site(
     alloc: Global,
     placed: &Placed,
     vars: &[VarInfo],
     slots: &[Slot],
-    level: u32,
+    site: u32,
     shown: &mut Vec<u8>,
 ) -> Result<(), AllocError> {
     let mut names = Vec::new(alloc);
     for slot in slots {
-        if placed.saved(0, level, place_of(*slot)) {
+        if placed.saved(0, site, place_of(*slot)) {
             add_name(vars, *slot, &mut names)?;
         }
     }
     if names.is_empty() {
         return Ok(());
     }
-    let text = format!(in alloc; "level {level}")?;
+    let text = format!(in alloc; "speculate {site}")?;
     shown.extend_from_slice(text.as_bytes())?;
     shown.extend_from_slice(names.as_slice())?;
     add_line("", shown)
