@@ -47,7 +47,8 @@ fn place_function(
     })
 }
 
-/// The homes of the locations of a program, whose code over slots is `slots`, and which of them its speculations save.
+/// The homes of the locations of a program, whose code over slots is `slots`, and which of them the speculation of each `speculate`
+/// saves.
 /// `lives` tells of each function, in order, what is live in it. A location that is a slot is in a register, one of 3, 4, 9, 11
 /// to 16 and 18 to 31, or in its own word of the frame, which has the number of its slot and two more; no home is lost that is
 /// needed, no two locations that are live at one point have one, and a function of at most 23 locations has all of them in registers. An error means that there is no memory; a
