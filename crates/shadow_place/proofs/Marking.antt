@@ -1,5 +1,5 @@
 -- Rows of marks, as they grow.
-use Rattle.std.proofs.Common.{◌≡◌, ◌⊎◌, inl, inr, ⊎_elim, ℕ, ◌+◌, ◌<◌, Bool, true, false, List, [], ◌∷◌, ◌++◌, length, get_or, take, Option, Some, None, refl, sym, ap, ◌∙◌, subst}
+use Rattle.std.proofs.Common.{◌≡◌, ◌⊎◌, inl, inr, ⊎_elim, ℕ, ◌+◌, ◌<◌, Bool, true, List, [], ◌∷◌, ◌++◌, length, get_or, take, Option, Some, None, refl, sym, ap, ◌∙◌, subst}
 use Rattle.std.specs.Prelude.{option_map, slice_get}
 use Rattle.std.proofs.lemmas.List.{take_more}
 use Rattle.std.proofs.lemmas.Option.{same_Some}
@@ -80,27 +80,9 @@ module _ (a : Analyses) (level label point : ℕ) where
         told = sym (tells x.0 x.2) ∙ is;
       }
 
-  -- it isn't
-  pub marks_not : (number : ℕ) (told : Bool) (rows : List (List Bool)) → number_at (slice_get a.func.now.code point) ≡ Some number → ((x : Location) → number_of x ≡ number → told ≡ is_live a.live.now x label) → told ≡ false → AddsAll (IsMarkedAt a level label point) rows rows
-  marks_not number told rows e tells is =
-      all_none (IsMarkedAt a level label point) rows (λ s n m. false_true (sym is ∙ (tells m.location (m.numbered ∙ at_number number s n e m) ∙ m.told)))
-    where
-      false_true : false ≡ true → ⊥
-      false_true h = cc
-
-  -- the item assigns nothing
-  pub marks_nothing : (rows : List (List Bool)) → number_at (slice_get a.func.now.code point) ≡ None → AddsAll (IsMarkedAt a level label point) rows rows
-  marks_nothing rows e = all_none (IsMarkedAt a level label point) rows (λ s n m. none_some (sym e ∙ assigned-number (slice_get a.func.now.code point) m.location (in_contains m.location (assigns_at (slice_get a.func.now.code point)) m.assigns)))
-    where
-      none_some : {k : ℕ} → None ≡ Some k → ⊥
-      none_some h = cc
-
 -- ---- points
 
 module _ (a : Analyses) (level label : ℕ) where
-  pub marks_none : (rows : List (List Bool)) → AddsAll (IsMarkedIn a level label []) rows rows
-  marks_none rows = all_none (IsMarkedIn a level label []) rows (λ s n m. in_contains m.point [] m.there)
-
   -- one point more
   pub marks_more : (points : List ℕ) (i point : ℕ) (old middle new : List (List Bool)) → i < length points → point ≡ get_or points i point → AddsAll (IsMarkedIn a level label (take i points)) old middle → AddsAll (IsMarkedAt a level label point) middle new →
       AddsAll (IsMarkedIn a level label (take (i + 1) points)) old new

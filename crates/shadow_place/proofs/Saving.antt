@@ -65,9 +65,6 @@ module _ (a : Analyses) (level : ℕ) where
       law : (point : ℕ) → IsReached arcs guards (other_than 0) point ↔ LeadsOut a.func.now.code level label point
       law point = reached_lead_out a.func.now.code level label 0 arcs guards are every point
 
-  pub no_labels : (rows : List (List Bool)) → AddsAll (IsMarkedBefore a level 0) rows rows
-  no_labels rows = all_none (IsMarkedBefore a level 0) rows (λ s n m. (let less = m.before in omega arith))
-
   -- one label more
   pub more_labels : (label : ℕ) (old middle new : List (List Bool)) → AddsAll (IsMarkedBefore a level label) old middle → AddsAll (IsMarkedOut a level label) middle new → AddsAll (IsMarkedBefore a level (label + 1)) old new
   more_labels label old middle new before next =
@@ -81,10 +78,6 @@ module _ (a : Analyses) (level : ℕ) where
 -- ---- levels
 
 module _ (a : Analyses) where
-  -- no way out has level 0
-  pub no_levels : (rows : List (List Bool)) → AddsAll (IsMarkedBelow a 1) rows rows
-  no_levels rows = all_none (IsMarkedBelow a 1) rows (λ s n m. (let some = m.out.out.leads.out.some in let less = m.below in omega arith))
-
   -- one level more
   pub more_levels : (level : ℕ) (old middle new : List (List Bool)) → AddsAll (IsMarkedBelow a level) old middle → AddsAll (IsMarkedBefore a level (length a.func.now.code + 1)) middle new → AddsAll (IsMarkedBelow a (level + 1)) old new
   more_levels level old middle new before next =
