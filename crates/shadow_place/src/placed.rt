@@ -10,8 +10,9 @@ use bril_tree::place::Place;
 use bril_tree::sequence::Seq;
 use graph_search::is_marked;
 
-// Of a function: the home of each variable and of each variable's shadow; and for each level, from 0, whether a location is
-// saved there, by the location's number: twice that of a variable, and one more for its shadow.
+// Of a function: the home of each variable and of each variable's shadow; and for each point, if it is a `speculate`, whether its
+// speculation saves a location, by the location's number: twice that of a variable, and one more for its shadow. No point has a
+// row in a function in which no speculation is ever open.
 #[derive(Drop)]
 pub(crate) struct FunctionHomes {
     pub variables: Vec<Home>,
@@ -19,7 +20,7 @@ pub(crate) struct FunctionHomes {
     pub saved: Vec<Seq<bool>>,
 }
 
-/// The homes of a program's locations, and which of them its speculations save.
+/// The homes of a program's locations, and which of them the speculation of each `speculate` saves.
 #[derive(Drop)]
 pub struct Placed {
     pub(crate) funcs: Vec<FunctionHomes>,
@@ -46,23 +47,23 @@ impl FunctionHomes {
         }
     }
 
-    // Whether a location of a number is saved at a level. Takes no memory.
-    fn is_saved(&self, level: u32, number: usize) -> bool
-        ensures { result ≡ is_marked_if (slice_get self.now.saved.items level) number }
+    // Whether the speculation of the `speculate` at a point saves the location of a number. Takes no memory.
+    fn is_saved(&self, site: u32, number: usize) -> bool
+        ensures { result ≡ is_marked_if (slice_get self.now.saved.items site) number }
     {
-        match self.saved.get(level as usize) {
+        match self.saved.get(site as usize) {
             None => false,
             Some(row) => is_marked(row.as_slice(), number),
         }
     }
 
-    // Whether a place is saved at a level. Takes no memory.
-    fn saved(&self, level: u32, place: Place) -> bool
-        ensures { result ≡ is_saved_of self.now level (location_of place) }
+    // Whether it saves a place. Takes no memory.
+    fn saved(&self, site: u32, place: Place) -> bool
+        ensures { result ≡ is_saved_of self.now site (location_of place) }
     {
         match place {
-            Place::Var(x) => self.is_saved(level, 2 * x as usize),
-            Place::Shadow(x) => self.is_saved(level, 2 * x as usize + 1),
+            Place::Var(x) => self.is_saved(site, 2 * x as usize),
+            Place::Shadow(x) => self.is_saved(site, 2 * x as usize + 1),
         }
     }
 }
@@ -79,14 +80,14 @@ impl Placed {
         }
     }
 
-    /// Whether the speculations of a level, from 1, of a function save a place: it has a shadow word at that level. What is no
-    /// place of the program is saved at none. Takes no memory.
-    pub fn saved(&self, func: u32, level: u32, place: Place) -> bool
-        ensures { result ≡ is_saved_in self.now func level (location_of place) }
+    /// Whether the speculation of the `speculate` at a point of a function saves a place: it has a shadow word while that
+    /// speculation is open. What is no place of the program is saved by none, and no other point saves a place. Takes no memory.
+    pub fn saved(&self, func: u32, site: u32, place: Place) -> bool
+        ensures { result ≡ is_saved_in self.now func site (location_of place) }
     {
         match self.funcs.get(func as usize) {
             None => false,
-            Some(homes) => homes.saved(level, place),
+            Some(homes) => homes.saved(site, place),
         }
     }
 }

@@ -19,7 +19,7 @@ use live_sets::Live;
 use slot_code::{SlotFunction, Slots};
 use std::alloc::{AllocError, Global};
 
-// The homes of a function, and what its speculations save.
+// The homes of a function, and what the speculation of each of its `speculate` items saves.
 fn place_function(
     alloc: Global,
     func: &Func,
@@ -47,11 +47,12 @@ fn place_function(
     })
 }
 
-/// The homes of the locations of a program, whose code over slots is `slots`, and which of them its speculations save.
-/// `lives` tells of each function, in order, what is live in it. A location that is a slot is in a register, one of 3, 4, 9, 11
-/// to 16 and 18 to 31, or in its own word of the frame, which has the number of its slot and two more; no home is lost that is
-/// needed, no two locations that are live at one point have one, and a function of at most 23 locations has all of them in registers. An error means that there is no memory; a
-/// function with 2^32 locations or edges or more is taken to need more.
+/// The homes of the locations of a program, whose code over slots is `slots`, and which of them the speculation of each
+/// `speculate` saves. `lives` tells of each function, in order, what is live in it. A location that is a slot is in a register,
+/// one of 3, 4, 9, 11 to 16 and 18 to 31, or in its own word of the frame, which has the number of its slot and two more; no home
+/// is lost that is needed, no two locations that are live at one point have one, and a function of at most 23 locations has all
+/// of them in registers. An error means that there is no memory; a function with 2^32 locations or edges or more is taken to need
+/// more.
 pub fn place(
     alloc: Global,
     prog: &Checked,

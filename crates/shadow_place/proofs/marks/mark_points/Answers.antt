@@ -8,5 +8,5 @@ loop-point-preserved c =
     let points = c.args.points.now in
     let i = c.loop-point.point-index in
     let point = slice_index points i in
-    marks_more c.args.code.now c.args.live.now c.args.label points i point c.args.row.now.items c.loop-point.row.items c.mark_point.new.row.items
+    marks_more c.args.known.now c.args.level c.args.label points i point c.args.rows.now.items c.loop-point.rows.items c.mark_point.new.rows.items
     c.loop-point-test.true (get_or_default points i 0 point c.loop-point-test.true) c.loop-point.invariant c.in_ok-mark_point.ensures

@@ -1,6 +1,6 @@
-use Rattle.shadow_place.specs.Placement.{AreSavedRows}
+use Rattle.shadow_place.specs.Marks.{AddsAll, IsMarkedBelow, first_rows}
 use Rattle.shadow_place.proofs.saved.saved_rows.Given as goal
 
--- the rows of the levels so far
+-- the marks of the levels so far
 abbrev pub invariant-loop-level : goal.invariant-loop-level
-invariant-loop-level l = AreSavedRows l.known.func.now.code l.level l.rows.items
+invariant-loop-level l = AddsAll (IsMarkedBelow l.known l.level) (first_rows l.known.lowered.now.variables l.known.func.now.code) l.rows.items
