@@ -49,7 +49,7 @@ module _ (marked : Bool) (p : Prog) (slots : Slots) (lives : List Live) (placed 
     homes_same = λ i x. ap (home_in placed k) (sym (location_back x)) i
 
     saved_same : is_saved_in placed k ≡ saved_at own
-    saved_same = λ i level x. ap (is_saved_in placed k level) (sym (location_back x)) i
+    saved_same = λ i site x. ap (is_saved_in placed k site) (sym (location_back x)) i
 
     stay_apart : IsPlaced f.code f.args (home_at own) (saved_at own)
     stay_apart = subst (λ homes. IsPlaced f.code f.args homes (saved_at own)) homes_same (subst (IsPlaced f.code f.args (home_in placed k)) saved_same (is.are.apart k f there))
@@ -70,7 +70,7 @@ module _ (marked : Bool) (p : Prog) (slots : Slots) (lives : List Live) (placed 
     serves : (g : SlotFunction) → slice_get slots.funcs k ≡ Some g → HomesServe f.code f.args g own
     serves g is_g = record {
       placed = stay_apart;
-      saved = λ level x saved. ap (is_saved_in placed k level) (location_back x) ∙ (is.are.saved k f there level x).1 saved;
+      saved = λ site x saved. ap (is_saved_in placed k site) (location_back x) ∙ (is.are.saved k f there site x).1 saved;
       own = λ x in_g. subst (IsHomeOf g x) (ap (home_in placed k) (sym (location_back x))) (is.are.own k g x is_g in_g);
       live = tells_live;
       registers = λ point x y live_x live_y register same. is.are.live k f there point x y live_x live_y (ap (home_in placed k) (sym (location_back x)) ∙ (same ∙ ap (home_in placed k) (location_back y)));

@@ -14,12 +14,10 @@ is_moved homes g (TakenBack point label) slot = is_taken_back homes g point labe
 is_moved homes g (Outliving point dest) slot = outlives homes point dest slot
 is_moved homes g Loaded slot = is_loaded homes g slot
 
--- its numbers of levels and points are small enough
-abbrev pub IsReady : SlotFunction → Moved → Type 0
-IsReady g (Kept point) = depth_at g point + 2 < frame_reach
-IsReady g (TakenBack point label) = depth_at g point + 2 < frame_reach
-IsReady g (Outliving point dest) = point + 1 < 2 ^ 32
-IsReady g Loaded = Unit {0}
+-- the number of the point after a call is small enough
+abbrev pub IsReady : Moved → Type 0
+IsReady (Outliving point dest) = point + 1 < 2 ^ 32
+IsReady _ = Unit {0}
 
 -- slots that are in registers are among the first 254
 abbrev pub AreRegistersNear : FunctionHomes → SlotFunction → Type 0

@@ -1,5 +1,5 @@
 -- The moves that the code has of a function's slots, and their words one way or the other.
-use Rattle.std.specs.Prelude.{ℕ, ◌+◌, ◌^◌, ◌<◌, ◌≤◌, List, length}
+use Rattle.std.specs.Prelude.{ℕ, ◌+◌, ◌^◌, ◌≤◌, List, length}
 use Rattle.std.specs.List.{AllByRecursion}
 use Rattle.bril_tree.specs.declared.home.Home.{Home}
 use Rattle.slot_code.specs.declared.item.Slot.{Slot}
@@ -42,8 +42,8 @@ moves_of_slots m k slots = moves_from (homes_in m.homes) m.first (is_moved (home
 abbrev pub all_moves : SlotMoves → List Move
 all_moves m = moves_of_slots m 0 m.slots.now
 
--- Their words have encodings: each slot's home is within reach, and numbers of levels, points and words are small enough.
+-- Their words have encodings: each slot's home is within reach, and numbers of points and words are small enough.
 pub record AreReady (m : SlotMoves) : Type 0 where
   pub reached : AllByRecursion (λ slot. IsReached ((homes_in m.homes).home slot)) m.slots.now
-  pub meant : 0 < length m.slots.now → IsReady m.func.now m.moved
+  pub meant : IsReady m.moved
   pub words : m.first + length m.slots.now ≤ 2 ^ 28

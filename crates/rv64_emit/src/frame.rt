@@ -32,12 +32,22 @@ pub fn slot_count(func: &SlotFunction) -> u64
     func.slots.as_slice().len() as u64
 }
 
-/// How many speculations are open at a point.
-pub fn depth_of(func: &SlotFunction, point: u32) -> usize
+// How many speculations are open at a point.
+fn depth_of(func: &SlotFunction, point: u32) -> usize
     ensures { result ≡ homes.depth_at func.now point }
 {
     match func.depths.as_slice().get(point as usize) {
         Some(depth) => *depth,
+        None => 0,
+    }
+}
+
+/// The `speculate` of the newest speculation that is open at a point, 0 where none is.
+pub fn newest_of(func: &SlotFunction, point: u32) -> u32
+    ensures { result ≡ homes.newest_at func.now point }
+{
+    match func.newest.as_slice().get(point as usize) {
+        Some(site) => *site,
         None => 0,
     }
 }

@@ -154,11 +154,11 @@ impl<'a> SlotHomes<'a> {
         self.home(Slot::Variable(variable))
     }
 
-    /// Whether the speculations of a level, from 1, keep a slot.
-    pub fn keeps(&self, level: u32, slot: Slot) -> bool
-        ensures { result ≡ (homes_in self.now).saved level slot }
+    /// Whether the speculation of the `speculate` at a point keeps a slot.
+    pub fn keeps(&self, site: u32, slot: Slot) -> bool
+        ensures { result ≡ (homes_in self.now).saved site slot }
     {
-        self.placed.saved(self.function, level, place_of(slot))
+        self.placed.saved(self.function, site, place_of(slot))
     }
 
     /// Whether a slot is live at a point.

@@ -5,7 +5,7 @@ ghost use Rattle.rv64_emit.specs.Moved.{IsReady, is_moved};
 ghost use Rattle.rv64_emit.specs.Placed.{homes_in};
 ghost use Rattle.rv64_emit_laws.specs.layout.Homes as homes;
 
-use crate::frame::depth_of;
+use crate::frame::newest_of;
 use crate::homes::SlotHomes;
 use bril_tree::home::Home;
 use slot_code::{Slot, SlotFunction};
@@ -59,15 +59,13 @@ fn is_argument(func: &SlotFunction, slot: Slot) -> bool
 impl Moved {
     /// Whether a slot is among them.
     pub fn has(self, homes: &SlotHomes<'_>, func: &SlotFunction, slot: Slot) -> bool
-        requires { IsReady func.now self }
+        requires { IsReady self }
         ensures { result ≡ is_moved (homes_in homes.now) func.now self slot }
     {
         match self {
-            Moved::Kept { point } => {
-                homes.keeps(depth_of(func, point) as u32 + 1, slot) && homes.is_live(point, slot)
-            }
+            Moved::Kept { point } => homes.keeps(point, slot) && homes.is_live(point, slot),
             Moved::TakenBack { point, label } => {
-                homes.keeps(depth_of(func, point) as u32, slot) && homes.is_live(label, slot)
+                homes.keeps(newest_of(func, point), slot) && homes.is_live(label, slot)
             }
             Moved::Outliving { point, dest } => {
                 in_register(homes.home(slot))

@@ -112,7 +112,7 @@ impl SlotMoves<'_> {
         slot: Slot,
         k: usize,
     ) -> Result<(), AllocError>
-        requires ready { IsReady self.now.func.now self.now.moved }
+        requires ready { IsReady self.now.moved }
         requires slot { IsReached ((homes_in self.now.homes).home slot) }
         requires word { self.now.first + k < 2 ^ 28 }
         ensures { OnOk result (code.new ≡ code.old ++ map encoded (words_by transfer (moves_of_slots self.now k (slot ∷ [])))) }
@@ -135,7 +135,7 @@ impl SlotMoves<'_> {
     }
 
     fn one_size(&self, transfer: Transfer, slot: Slot, k: usize) -> u32
-        requires ready { IsReady self.now.func.now self.now.moved }
+        requires ready { IsReady self.now.moved }
         requires word { self.now.first + k < 2 ^ 28 }
         ensures value { result ≡ size_by transfer (moves_of_slots self.now k (slot ∷ [])) }
         ensures few { result ≤ 6 }

@@ -1,4 +1,4 @@
--- How many speculations are open in a frame, and that its words are enough for them.
+-- How many speculations are open in a frame, which is the newest of them, and that its words are enough for them.
 use Rattle.std.proofs.Common.{◌≡◌, ℕ, suc, ◌+◌, ◌*◌, ◌<◌, ◌≤◌, List, ◌∷◌, length, mul-le-mul_left, Option, Some, None, sym, ap, ◌∙◌, subst, arith}
 use Rattle.std.specs.Prelude.{option_map, slice_get}
 use Rattle.std.proofs.lemmas.Option.{get_or_from_slice_get, slice_get-map}
@@ -13,10 +13,12 @@ use Rattle.bril_tree.proofs.Elements.{get_in, get_inside}
 use Rattle.bril_tree.proofs.Members.{contains_in}
 use Rattle.flow_graph.proofs.OpenSites.{one_list}
 use Rattle.flow_graph.proofs.Told.{first_sites}
-use Rattle.rv64_emit_laws.specs.layout.Homes.{depth_at}
+use Rattle.placement_laws.specs.Open.{newest_site}
+use Rattle.rv64_emit_laws.specs.layout.Homes.{depth_at, newest_at}
 use Rattle.rv64_words.specs.State.{State}
 use Rattle.slot_code.specs.declared.slots.SlotFunction.{SlotFunction}
 use Rattle.slot_code.specs.Lowered.{IsLoweredFunction, open_count}
+use Rattle.slot_code.proofs.Sites.{newest_at_end}
 use Rattle.type_soundness.specs.WellTyped.{IsWellTyped}
 use Rattle.rv64_emit_laws.proofs.Relation.{RunsAlike}
 use Rattle.rv64_emit_laws.proofs.Setting.{Setting}
@@ -48,6 +50,10 @@ module _ (S : Setting) (f : bril.Frame) (g : SlotFunction) (there : slice_get S.
           let own = first_sites w.function.code w.walk (accepted_function S.p f.function w.function S.accepted w.there).sites w.is in
           let same = one_list w.function.code f.point (sites_of w.function.code w.walk) sites (subst (λ n. AreFirstSites w.function.code n (sites_of w.function.code w.walk)) w.ends own) first in
           w.saves ∙ (ap length same ∙ sym (depth_is (Some sites) e))
+
+  -- the newest open `speculate` at its point is that of the walk that leads there
+  pub newest_is : newest_at g f.point ≡ newest_site w.function.code w.walk
+  newest_is = ap (newest_at g) (sym w.ends) ∙ newest_at_end w.function.code (accepted_function S.p f.function w.function S.accepted w.there).sites g.newest lowered.newest w.walk w.is
 
   -- the frame has words for the slots as they are, and as they were at each open speculation
   pub saves_fit : frame_head + length g.slots * (1 + length f.saves) ≤ g.words

@@ -17,7 +17,7 @@ use Rattle.bril_tree.specs.State.{counted}
 use Rattle.bril_tree.specs.Step.{advances, at_point, code_of, dropped, saved, step, with_failure}
 use Rattle.bril_tree.specs.Value.{word_of}
 use Rattle.placement_laws.specs.Homes.{slot_of}
-use Rattle.rv64_emit_laws.specs.layout.Homes.{FunctionHomes, depth_at, level_word, moves_of}
+use Rattle.rv64_emit_laws.specs.layout.Homes.{FunctionHomes, depth_at, is_taken_back, level_word, moves_of, newest_at}
 use Rattle.rv64_emit_laws.specs.layout.Items.{guard_front, guard_front_size, skip_size, skip_words}
 use Rattle.rv64_emit_laws.specs.layout.Laid.{IsGuardAt}
 use Rattle.rv64_emit_laws.proofs.lemmas.layout.Bounding.{moves_restore_most}
@@ -30,7 +30,6 @@ use Rattle.rv64_words_laws.proofs.lemmas.sequences.Sizes.{source_most}
 use Rattle.rv64_words.specs.declared.image.GuardAt.{GuardAt}
 use Rattle.rv64_words.specs.declared.word.Word.{Word}
 use Rattle.rv64_words.specs.State.{State}
-use Rattle.slot_code.specs.declared.item.Slot.{Slot}
 use Rattle.slot_code.specs.declared.item.Slot.TheVariants.{Variable}
 use Rattle.slot_code.specs.declared.item.SlotItem.TheVariants.{Guard}
 use Rattle.slot_code.specs.declared.slots.SlotFunction.{SlotFunction}
@@ -52,12 +51,9 @@ use Rattle.rv64_emit_laws.proofs.Speculating.{newest_of}
 use Rattle.rv64_emit_laws.proofs.Standing.{standing}
 use Rattle.rv64_emit_laws.proofs.Stretches.{leaves_in, with_end}
 
--- what a guard of a level takes back, whose abort leads to a label
-abbrev taken_at : FunctionHomes → ℕ → ℕ → Slot → Bool
-taken_at homes level label slot = homes.saved level slot && homes.live label slot
-
-abbrev taken_moves : FunctionHomes → SlotFunction → ℕ → ℕ → List Move
-taken_moves homes g level label = moves_of homes g (level_word g level) (taken_at homes level label)
+-- what the guard at a point, whose abort leads to a label, takes back from the words of a level
+abbrev taken_moves : FunctionHomes → SlotFunction → ℕ → ℕ → ℕ → List Move
+taken_moves homes g level point label = moves_of homes g (level_word g level) (is_taken_back homes g point label)
 
 module _ (S : Setting) (s : bril.State) (t : State) (r : RunsAlike S s t) (condition abort_to : ℕ) (item : slice_get r.holds.function.code r.frame.point ≡ Some (Guard condition abort_to)) where
   abbrev front : ℕ
@@ -132,8 +128,8 @@ module _ (S : Setting) (s : bril.State) (t : State) (r : RunsAlike S s t) (condi
   -- the words behind those of the condition
   abbrev behind : List Word
   behind =
-      skip_words (register_for 5 ((S.homes r.frame.function).home (Variable condition))) (suc (restore_size (taken_moves (S.homes r.frame.function) r.holds.function (depth_at r.holds.function r.frame.point) abort_to)))
-      ++ restore_words (taken_moves (S.homes r.frame.function) r.holds.function (depth_at r.holds.function r.frame.point) abort_to)
+      skip_words (register_for 5 ((S.homes r.frame.function).home (Variable condition))) (suc (restore_size (taken_moves (S.homes r.frame.function) r.holds.function (depth_at r.holds.function r.frame.point) r.frame.point abort_to)))
+      ++ restore_words (taken_moves (S.homes r.frame.function) r.holds.function (depth_at r.holds.function r.frame.point) r.frame.point abort_to)
 
   -- the condition's word, and what comes after it
   condition_brought : (held : HoldsBool r.frame.locations condition) → IsSlotOf r.holds.function (Variable condition) → Brought S s t r true 5 (Variable condition) (Boolean held.truth) 0 (here S s t r) r.core behind
@@ -154,12 +150,12 @@ module _ (S : Setting) (s : bril.State) (t : State) (r : RunsAlike S s t) (condi
       let k = here S s t r in
       let home = (S.homes r.frame.function).home (Variable condition) in
       let o = source_size home in
-      let cs = restore_size (taken_moves (S.homes r.frame.function) g (depth_at g r.frame.point) abort_to) in
+      let cs = restore_size (taken_moves (S.homes r.frame.function) g (depth_at g r.frame.point) r.frame.point abort_to) in
       let b = condition_brought held in_g in
       let differ : eqb (b.core.registers (register_for 5 home)) (b.core.registers 0) ≡ false = ap (λ y. eqb y (b.core.registers 0)) (b.word.is ∙ ap (λ y. word_of (Boolean y)) truth) ∙ ap (eqb 1) (b.keeps.zero_register ∙ h.zero_is) in
       let next = next_entry S r.frame.function g r.frame.point (Guard condition abort_to) h.there item in
       let low = S.laid.few_entries r.frame.function (suc r.frame.point) in
-      let q = skip_leads S.image (sizes S) (register_for 5 home) (suc cs) (restore_words (taken_moves (S.homes r.frame.function) g (depth_at g r.frame.point) abort_to)) (omega arith) differ b.going in
+      let q = skip_leads S.image (sizes S) (register_for 5 home) (suc cs) (restore_words (taken_moves (S.homes r.frame.function) g (depth_at g r.frame.point) r.frame.point abort_to)) (omega arith) differ b.going in
       let some = q.some in
       let few = q.few in
       let within = q.within in
@@ -175,18 +171,18 @@ module _ (S : Setting) (s : bril.State) (t : State) (r : RunsAlike S s t) (condi
     way = record { from = r.frame.point; to = abort_to; aborts = true }
 
     abbrev back : List Move
-    back = taken_moves (S.homes r.frame.function) r.holds.function (suc (length rest)) abort_to
+    back = taken_moves (S.homes r.frame.function) r.holds.function (suc (length rest)) r.frame.point abort_to
 
     way_goes : Contains (branches_at (code_of S.p r.frame.function) r.frame.point) way
     way_goes = goes S r.frame r.holds.function r.holds.there (Guard condition abort_to) item way (inr (inl refl))
 
-    -- exactly what is live at the label, and kept at the newest level, is taken back
-    chosen : (x : Location) → taken_at (S.homes r.frame.function) (suc (length rest)) abort_to (slot_of x) ≡ true → IsLive (code_of S.p r.frame.function) x abort_to × (saved_at (S.homes r.frame.function) (suc (length rest)) x ≡ true)
+    -- exactly what is live at the label, and kept by the newest speculation, is taken back
+    chosen : (x : Location) → is_taken_back (S.homes r.frame.function) r.holds.function r.frame.point abort_to (slot_of x) ≡ true → IsLive (code_of S.p r.frame.function) x abort_to × (saved_at (S.homes r.frame.function) (newest_at r.holds.function r.frame.point) x ≡ true)
     chosen x told =
-        let parts = and_parts ((S.homes r.frame.function).saved (suc (length rest)) (slot_of x)) ((S.homes r.frame.function).live abort_to (slot_of x)) told in
+        let parts = and_parts ((S.homes r.frame.function).saved (newest_at r.holds.function r.frame.point) (slot_of x)) ((S.homes r.frame.function).live abort_to (slot_of x)) told in
         (((standing S s t r).serves.live abort_to x).0 parts.1, parts.0)
 
-    all_chosen : (x : Location) → IsLive (code_of S.p r.frame.function) x abort_to → saved_at (S.homes r.frame.function) (suc (length rest)) x ≡ true → taken_at (S.homes r.frame.function) (suc (length rest)) abort_to (slot_of x) ≡ true
+    all_chosen : (x : Location) → IsLive (code_of S.p r.frame.function) x abort_to → saved_at (S.homes r.frame.function) (newest_at r.holds.function r.frame.point) x ≡ true → is_taken_back (S.homes r.frame.function) r.holds.function r.frame.point abort_to (slot_of x) ≡ true
     all_chosen x live told = ap (λ b. b && (S.homes r.frame.function).live abort_to (slot_of x)) told ∙ ((standing S s t r).serves.live abort_to x).1 live
 
     -- what the newest speculation kept came back, and the guard's word led to its abort
@@ -200,7 +196,7 @@ module _ (S : Setting) (s : bril.State) (t : State) (r : RunsAlike S s t) (condi
         let before : FramesHold S (length s.blocks) r.frame r.older d = kept_holds S (length s.blocks) r.frame r.older r.core r.holds d (keeps_homes r.core d keeps) in
         let behind : FramesHold S (length s.blocks) f r.older e =
         restored_holds S (length s.blocks) r.frame r.older d (kept_holds S (length s.blocks) r.frame r.older r.core r.holds d (keeps_homes r.core d keeps)) (standing S s t r) newest rest saves_is abort_to way_goes
-        (taken_at (S.homes r.frame.function) (suc (length rest)) abort_to) chosen all_chosen e restored in
+        (is_taken_back (S.homes r.frame.function) r.holds.function r.frame.point abort_to) chosen all_chosen e restored in
         let last = arrived (here S s t r + front) e in
         let holds = kept_holds S (length s.blocks) f r.older e behind last (record { zero_register = refl; link_register = refl; frame_register = refl; frames_left = refl; homes = λ q u. refl; stack = refl }) in
         arrive S s t r u f r.older last n stepped (ap (λ x. x ∷ r.older) frame_is) r.running (r.printed ∙ sym (restored.rest.printed ∙ keeps.printed)) holds
@@ -234,17 +230,17 @@ module _ (S : Setting) (s : bril.State) (t : State) (r : RunsAlike S s t) (condi
         let next = next_entry S r.frame.function g r.frame.point (Guard condition abort_to) h.there item in
         let three = source_most home in
         let place : k + o < 2 ^ 20 = omega arith in
-        let g2 = skip_falls S.image (sizes S) (register_for 5 home) (suc (restore_size (taken_moves homes g d abort_to))) (restore_words (taken_moves homes g d abort_to)) place same_words b.going in
-        let g3 = with_end (restore_words back) (subst (λ m. Going S.image (sizes S) k r.core (0 + o + 1) (k + o + skip_size (suc (restore_size (taken_moves homes g m abort_to)))) b.core (restore_words (taken_moves homes g m abort_to))) depth g2) in
-        let can = level_moves_can S (length s.blocks) r.frame r.older r.core h (suc l) (taken_at homes (suc l) abort_to) (omega arith) fit_level in
-        let apart = back_apart S (length s.blocks) r.frame r.older r.core h (standing S s t r) newest rest saves_is abort_to way_goes (taken_at homes (suc l) abort_to) chosen all_chosen in
+        let g2 = skip_falls S.image (sizes S) (register_for 5 home) (suc (restore_size (taken_moves homes g d r.frame.point abort_to))) (restore_words (taken_moves homes g d r.frame.point abort_to)) place same_words b.going in
+        let g3 = with_end (restore_words back) (subst (λ m. Going S.image (sizes S) k r.core (0 + o + 1) (k + o + skip_size (suc (restore_size (taken_moves homes g m r.frame.point abort_to)))) b.core (restore_words (taken_moves homes g m r.frame.point abort_to))) depth g2) in
+        let can = level_moves_can S (length s.blocks) r.frame r.older r.core h (suc l) (is_taken_back homes g r.frame.point abort_to) (omega arith) fit_level in
+        let apart = back_apart S (length s.blocks) r.frame r.older r.core h (standing S s t r) newest rest saves_is abort_to way_goes (is_taken_back homes g r.frame.point abort_to) chosen all_chosen in
         let q = homes_restored S.image (sizes S) (stack_few S) h.base back b.core [] apart can.no_word can.usable can.inside (b.keeps.frame_register ∙ h.at) g3 in
-        let front_is : front ≡ o + (skip_size (suc cs) + cs) = ap (λ m. o + (skip_size (suc (restore_size (taken_moves homes g m abort_to))) + restore_size (taken_moves homes g m abort_to))) depth in
+        let front_is : front ≡ o + (skip_size (suc cs) + cs) = ap (λ m. o + (skip_size (suc (restore_size (taken_moves homes g m r.frame.point abort_to))) + restore_size (taken_moves homes g m r.frame.point abort_to))) depth in
         let at : k + o + skip_size (suc cs) + cs ≡ k + front = omega arith in
         let g4 = is_place S.image (sizes S) (o + 1 + cs) (k + front) (omega arith) at q.going in
         let has = its_words S r.frame.function g r.frame.point (Guard condition abort_to) h.there item in
         let runs = guard_jump_to S.image (sizes S) (k + front) (entry_of S r.frame.function abort_to) refl (omega arith) (omega arith) has.1 g4 in
-        let size = moves_restore_most homes g (level_word g (suc l)) (taken_at homes (suc l) abort_to) in
+        let size = moves_restore_most homes g (level_word g (suc l)) (is_taken_back homes g r.frame.point abort_to) in
         let count : o + 1 + cs + 1 ≡ suc (o + 1 + cs) = omega arith in
         restored_moves b.core q.core (o + 1 + cs) b.keeps q.is (guard_step held held.truth held.is ∙ ap (λ b. slot_guards S.p S.slots S.limits b abort_to r.frame r.older s) truth)
         (away S s t r (omega arith) (leaves_in (suc (o + 1 + cs)) count runs)) (omega arith)

@@ -16,8 +16,9 @@ use Rattle.bril_tree.specs.Walk.{end_of}
 use Rattle.placement_laws.specs.Holding.{SavesHold}
 use Rattle.placement_laws.specs.Homes.{slot_of}
 use Rattle.placement_laws.specs.Needed.{IsLiveOut, IsNeeded, Live}
+use Rattle.placement_laws.specs.Open.{newest_site}
 use Rattle.placement_laws.proofs.Speculating.{aborts, commits, speculates}
-use Rattle.rv64_emit_laws.specs.layout.Homes.{level_word, moves_of}
+use Rattle.rv64_emit_laws.specs.layout.Homes.{level_word, moves_of, newest_at}
 use Rattle.rv64_emit_laws.proofs.lemmas.layout.Moving.{are_inside, are_usable, homes_are_apart, move_in, no_word_is_home, slot_move, unmoved, words_are_apart}
 use Rattle.rv64_words_laws.specs.stretches.Core.{Core}
 use Rattle.rv64_words_laws.specs.sequences.Moves.{Move, AreHomesApart, AreInside, AreUsable, AreWordsApart, IsUsable, NoWordIsHome, Restored, Saved, home_word}
@@ -91,9 +92,9 @@ module _ (S : Setting) (made : ℕ) (f : bril.Frame) (older : List bril.Frame) (
 
   -- ---- a speculation begins
 
-  -- What is live and kept by the new level, and perhaps more, was brought there.
+  -- What is live and kept by the `speculate` at the frame's point, and perhaps more, was brought to the words of the new level.
   pub saved_holds : Stands S f h.function → Leads S f (suc f.point) → Contains (branches_at (code_of S.p f.function) f.point) (onward f.point) → (test : Slot → Bool) →
-      ((x : Location) → IsLive (code_of S.p f.function) x f.point → saved_at (S.homes f.function) (suc (length f.saves)) x ≡ true → test (slot_of x) ≡ true) →
+      ((x : Location) → IsLive (code_of S.p f.function) x f.point → saved_at (S.homes f.function) f.point x ≡ true → test (slot_of x) ≡ true) →
       (e : Core) → Saved h.base (moves_of (S.homes f.function) h.function (level_word h.function (suc (length f.saves))) test) c e → FramesHold S made (advanced (record f { saves = f.locations ∷ f.saves })) older e
   saved_holds st l at test chosen e saved = record {
     function = h.function;
@@ -129,12 +130,12 @@ module _ (S : Setting) (made : ℕ) (f : bril.Frame) (older : List bril.Frame) (
           let above = level_above (suc (length f.saves)) (omega arith) in
           below (h.base + o) (omega arith)
 
-      copied : (x : Location) → IsLive (code_of S.p f.function) x (end_of st.walk) → saved_at (S.homes f.function) (suc (length f.saves)) x ≡ true →
+      copied : (x : Location) → IsLive (code_of S.p f.function) x (end_of st.walk) → saved_at (S.homes f.function) (end_of st.walk) x ≡ true →
           shadow_word h.function h.base e.stack (suc (length f.saves)) x ≡ home_word c h.base (home_at (S.homes f.function) x)
       copied x live told =
           let origin = source S made f older c h in
           saved.got _ (move_in (S.homes f.function) origin.function h.function origin.is (level_word h.function (suc (length f.saves))) test (slot_of x)
-          (live_in S f h.function h.there x (end_of st.walk) live) (chosen x (subst (IsLive (code_of S.p f.function) x) st.ends live) told))
+          (live_in S f h.function h.there x (end_of st.walk) live) (chosen x (subst (IsLive (code_of S.p f.function) x) st.ends live) (subst (λ site. saved_at (S.homes f.function) site x ≡ true) st.ends told)))
 
       same : (level : ℕ) (x : Location) → 1 ≤ level → level ≤ length f.saves → IsLiveOut (code_of S.p f.function) level (suc f.point) x → shadow_word h.function h.base e.stack level x ≡ shadow_word h.function h.base c.stack level x
       same level x some le o =
@@ -174,8 +175,8 @@ module _ (S : Setting) (made : ℕ) (f : bril.Frame) (older : List bril.Frame) (
   -- ---- a guard takes it back
 
   module _ (st : Stands S f h.function) (newest : bril.Locals) (rest : List bril.Locals) (saves : f.saves ≡ newest ∷ rest) (label : ℕ) (at : Contains (branches_at (code_of S.p f.function) f.point) (record { from = f.point; to = label; aborts = true })) (test : Slot → Bool)
-      (chosen : (x : Location) → test (slot_of x) ≡ true → IsLive (code_of S.p f.function) x label × (saved_at (S.homes f.function) (suc (length rest)) x ≡ true))
-      (all_chosen : (x : Location) → IsLive (code_of S.p f.function) x label → saved_at (S.homes f.function) (suc (length rest)) x ≡ true → test (slot_of x) ≡ true) where
+      (chosen : (x : Location) → test (slot_of x) ≡ true → IsLive (code_of S.p f.function) x label × (saved_at (S.homes f.function) (newest_at h.function f.point) x ≡ true))
+      (all_chosen : (x : Location) → IsLive (code_of S.p f.function) x label → saved_at (S.homes f.function) (newest_at h.function f.point) x ≡ true → test (slot_of x) ≡ true) where
     abbrev back : List Move
     back = moves_of (S.homes f.function) h.function (level_word h.function (suc (length rest))) test
 
@@ -202,7 +203,7 @@ module _ (S : Setting) (made : ℕ) (f : bril.Frame) (older : List bril.Frame) (
             (ap (S.homes f.function).home (slot_back x) ∙ (same ∙ sym (ap (S.homes f.function).home (slot_back y))))))
             (one_or_not (slot_location x) (slot_location y))
 
-    -- what is live at the label and kept by the newest level came back to its home, and the level is dropped
+    -- what is live at the label and kept by the newest speculation came back to its home, and its level is dropped
     pub restored_holds : (e : Core) → Restored h.base back c e → FramesHold S made (at_point label (record f { locations = newest; saves = rest })) older e
     restored_holds e restored = record {
       function = h.function;
@@ -252,7 +253,14 @@ module _ (S : Setting) (made : ℕ) (f : bril.Frame) (older : List bril.Frame) (
             let w = slot_move (S.homes f.function) origin.function h.function origin.is (level_word h.function (suc (length rest))) test m i in
             apart (slot_location w.slot) (subst (λ s. test s ≡ true) (sym (slot_back w.slot)) w.passes) (ap (S.homes f.function).home (slot_back w.slot) ∙ (sym w.home ∙ same))))
 
+        -- the same, where the newest speculation is that of the walk
+        told_by : (x : Location) → test (slot_of x) ≡ true → IsLive (code_of S.p f.function) x label × (saved_at (S.homes f.function) (newest_site (code_of S.p f.function) st.walk) x ≡ true)
+        told_by x told = let c = chosen x told in (c.0, subst (λ site. saved_at (S.homes f.function) site x ≡ true) st.newest c.1)
+
+        all_told : (x : Location) → IsLive (code_of S.p f.function) x label → saved_at (S.homes f.function) (newest_site (code_of S.p f.function) st.walk) x ≡ true → test (slot_of x) ≡ true
+        all_told x live told = all_chosen x live (subst (λ site. saved_at (S.homes f.function) site x ≡ true) (sym st.newest) told)
+
         now : HoldsAt S made f label newest rest (home_word e h.base) (shadow_word h.function h.base c.stack)
         now =
             aborts (code_of S.p f.function) st.func.args st.sound (home_at (S.homes f.function)) (saved_at (S.homes f.function)) st.serves.saved st.serves.placed (HasWord made) st.walk way st.is there
-            refl f.locations newest rest (home_word c h.base) (home_word e h.base) (shadow_word h.function h.base c.stack) (λ x. test (slot_of x)) (sym (ap length saves) ∙ st.deep) chosen all_chosen put left before
+            refl f.locations newest rest (home_word c h.base) (home_word e h.base) (shadow_word h.function h.base c.stack) (λ x. test (slot_of x)) (sym (ap length saves) ∙ st.deep) told_by all_told put left before

@@ -8,7 +8,7 @@ use Rattle.bril_tree.specs.Operand.{Location}
 use Rattle.bril_tree.specs.State as bril
 use Rattle.bril_tree.specs.Step.{code_of, advanced, commits, dropped, speculates}
 use Rattle.placement_laws.specs.Homes.{slot_of}
-use Rattle.rv64_emit_laws.specs.layout.Homes.{FunctionHomes, level_word, moves_of, speculate_moves}
+use Rattle.rv64_emit_laws.specs.layout.Homes.{FunctionHomes, is_kept, level_word, moves_of, speculate_moves}
 use Rattle.rv64_emit_laws.specs.layout.Items.{mark_size, mark_words, nop_word}
 use Rattle.rv64_emit_laws.proofs.lemmas.layout.Bounding.{moves_save_most}
 use Rattle.rv64_words_laws.specs.stretches.Core.{Core}
@@ -17,7 +17,6 @@ use Rattle.rv64_words_laws.proofs.lemmas.stretches.Going.{Going, begin, plain}
 use Rattle.rv64_words_laws.specs.sequences.Moves.{Move, Saved, save_size, save_words}
 use Rattle.rv64_words_laws.proofs.lemmas.sequences.Moves.{homes_saved}
 use Rattle.rv64_words.specs.State.{State}
-use Rattle.slot_code.specs.declared.item.Slot.{Slot}
 use Rattle.slot_code.specs.declared.item.SlotItem.TheVariants.{Commit, Speculate}
 use Rattle.slot_code.specs.declared.slots.SlotFunction.{SlotFunction}
 use Rattle.rv64_emit_laws.specs.Homes.{saved_at}
@@ -31,19 +30,16 @@ use Rattle.rv64_emit_laws.proofs.Setting.{Setting, entry_of, its_words, next_ent
 use Rattle.rv64_emit_laws.proofs.Standing.{standing}
 use Rattle.rv64_emit_laws.proofs.Stretches.{landed, no_moves, none_or_some}
 
--- what a speculation of a level, which begins at a point, keeps
-abbrev kept_at : FunctionHomes → ℕ → ℕ → Slot → Bool
-kept_at homes level point slot = homes.saved level slot && homes.live point slot
-
+-- what the `speculate` at a point keeps, in the words of a level
 abbrev kept_moves : FunctionHomes → SlotFunction → ℕ → ℕ → List Move
-kept_moves homes g level point = moves_of homes g (level_word g level) (kept_at homes level point)
+kept_moves homes g level point = moves_of homes g (level_word g level) (is_kept homes point)
 
 module _ (S : Setting) (s : bril.State) (t : State) (r : RunsAlike S s t) where
-  -- what is live here, and kept at the new level, is among what is kept
-  chosen : (x : Location) → IsLive (code_of S.p r.frame.function) x r.frame.point → saved_at (S.homes r.frame.function) (suc (length r.frame.saves)) x ≡ true → kept_at (S.homes r.frame.function) (suc (length r.frame.saves)) r.frame.point (slot_of x) ≡ true
+  -- what is live here, and kept by the speculation that begins here, is among what is kept
+  chosen : (x : Location) → IsLive (code_of S.p r.frame.function) x r.frame.point → saved_at (S.homes r.frame.function) r.frame.point x ≡ true → is_kept (S.homes r.frame.function) r.frame.point (slot_of x) ≡ true
   chosen x live told = ap (λ b. b && (S.homes r.frame.function).live r.frame.point (slot_of x)) told ∙ ((standing S s t r).serves.live r.frame.point x).1 live
 
-  -- the moves that keep slots at the new level, and how many words they have
+  -- the moves that keep slots in the words of the new level, and how many words they have
   abbrev kept : List Move
   kept = kept_moves (S.homes r.frame.function) r.holds.function (suc (length r.frame.saves)) r.frame.point
 
@@ -55,7 +51,7 @@ module _ (S : Setting) (s : bril.State) (t : State) (r : RunsAlike S s t) where
       FramesHold S (length s.blocks) (advanced (record r.frame { saves = r.frame.locations ∷ r.frame.saves })) r.older e
   level_holds item e saved =
       saved_holds S (length s.blocks) r.frame r.older r.core r.holds (standing S s t r) (leads S r.frame r.holds.function r.holds.there Speculate item (onward r.frame.point) (inl refl) refl refl)
-      (goes S r.frame r.holds.function r.holds.there Speculate item (onward r.frame.point) (inl refl)) (kept_at (S.homes r.frame.function) (suc (length r.frame.saves)) r.frame.point) chosen e saved
+      (goes S r.frame r.holds.function r.holds.there Speculate item (onward r.frame.point) (inl refl)) (is_kept (S.homes r.frame.function) r.frame.point) chosen e saved
 
   saved_moves : slice_get r.holds.function.code r.frame.point ≡ Some Speculate → (e : Core) (n : ℕ) → Saved r.holds.base kept r.core e →
       Runs S.image (sizes S) (here S s t r) r.core (suc n) (entry_of S r.frame.function (suc r.frame.point)) e → suc n ≤ S.cost → Moves S s t
@@ -149,9 +145,9 @@ module _ (S : Setting) (s : bril.State) (t : State) (r : RunsAlike S s t) where
       let split : n * (1 + suc l) ≡ n * suc l + n = grind arith in
       let has = subst (λ m. HasAt S.image k (save_words (kept_moves homes g (suc m) r.frame.point) ++ mark_words homes)) (sym depth) (its_words S r.frame.function g r.frame.point Speculate h.there item) in
       let g0 = begin S.image (sizes S) k r.core (save_words kept ++ mark_words homes) has in
-      let can = level_moves_can S (length s.blocks) r.frame r.older r.core h (suc l) (kept_at homes (suc l) r.frame.point) (omega arith) fit in
+      let can = level_moves_can S (length s.blocks) r.frame r.older r.core h (suc l) (is_kept homes r.frame.point) (omega arith) fit in
       let q = homes_saved S.image (sizes S) (stack_few S) h.base kept r.core (mark_words homes) can.words_apart can.no_word can.usable can.inside h.at g0 in
-      let size = moves_save_most homes g (level_word g (suc l)) (kept_at homes (suc l) r.frame.point) in
+      let size = moves_save_most homes g (level_word g (suc l)) (is_kept homes r.frame.point) in
       kept_leads item q.core q.is q.going (omega arith)
 
   -- a list that isn't empty

@@ -1,4 +1,5 @@
--- Where the newest frame stands: a walk leads there, with as many open sites as it has saves, and the homes of its function serve.
+-- Where the newest frame stands: a walk leads there, with as many open sites as it has saves, of which its function tells the newest,
+-- and the homes of its function serve.
 use Rattle.std.proofs.Common.{◌≡◌, ◌≤◌, List, length, Some, sym, ap, subst, arith}
 use Rattle.std.specs.Prelude.{slice_get}
 use Rattle.std.specs.List.{Contains}
@@ -10,11 +11,13 @@ use Rattle.bril_tree.specs.Sites.{AreSitesSound, sites_of}
 use Rattle.bril_tree.specs.State as bril
 use Rattle.bril_tree.specs.Step.{code_of, items_of}
 use Rattle.bril_tree.specs.Walk.{IsWalk, end_of}
+use Rattle.placement_laws.specs.Open.{newest_site}
 use Rattle.rv64_words.specs.State.{State}
 use Rattle.slot_code.specs.declared.slots.SlotFunction.{SlotFunction}
 use Rattle.type_soundness.specs.WellTyped.{IsWellTyped}
+use Rattle.rv64_emit_laws.specs.layout.Homes.{newest_at}
 use Rattle.rv64_emit_laws.specs.Homes.{HomesServe}
-use Rattle.rv64_emit_laws.proofs.Depths.{now_typed}
+use Rattle.rv64_emit_laws.proofs.Depths.{newest_is, now_typed}
 use Rattle.rv64_emit_laws.proofs.Homes.{origin, serving, sound_in}
 use Rattle.rv64_emit_laws.proofs.Relation.{RunsAlike}
 use Rattle.rv64_emit_laws.proofs.Setting.{Setting}
@@ -25,6 +28,7 @@ pub record Stands (S : Setting) (f : bril.Frame) (g : SlotFunction) : Type 0 whe
   pub is : IsWalk (code_of S.p f.function) walk
   pub ends : end_of walk ≡ f.point
   pub deep : length f.saves ≡ length (sites_of (code_of S.p f.function) walk)
+  pub newest : newest_at g f.point ≡ newest_site (code_of S.p f.function) walk
   pub sound : AreSitesSound (code_of S.p f.function)
   pub serves : HomesServe (code_of S.p f.function) func.args g (S.homes f.function)
 
@@ -37,6 +41,7 @@ stands S f g there w =
       is = subst (λ c. IsWalk c w.walk) (sym code) w.is;
       ends = w.ends;
       deep = subst (λ c. length f.saves ≡ length (sites_of c w.walk)) (sym code) w.saves;
+      newest = subst (λ c. newest_at g f.point ≡ newest_site c w.walk) (sym code) (newest_is S f g there w);
       sound = sound_in S f.function g there;
       serves = serving S f.function g there;
     }

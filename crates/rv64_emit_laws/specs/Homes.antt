@@ -14,7 +14,7 @@ use Rattle.slot_code.specs.declared.item.SlotItem.TheVariants.{Call}
 use Rattle.slot_code.specs.declared.slots.SlotFunction.{SlotFunction}
 use Rattle.slot_code.specs.declared.slots.Slots.{Slots}
 
--- a location is at the home of its slot, a speculation of a level keeps it where it keeps that, and it is said to be live at a
+-- a location is at the home of its slot, the speculation of a site keeps it where it keeps that, and it is said to be live at a
 -- point where that is
 abbrev pub home_at : FunctionHomes → Location → Home
 home_at homes location = homes.home (slot_of location)

@@ -31,10 +31,10 @@ newest_at g point = slice_index g.newest point
 
 -- ---- homes
 
--- Of one function: where each slot is, whether the speculation of a `speculate`, by its point, keeps it, and whether it is live at a point;
--- where a function has its argument of a number, from 0, as it begins, if it is live there; whether this one is a leaf, which calls no
--- function, so that its way back stays in register 1; and whether items are marked, which then have a word each, also those for which
--- nothing is to be done, but for labels and `nop`.
+-- Of one function: where each slot is, whether the speculation of a `speculate`, by its point, keeps it, and whether it is live at a
+-- point; where a function has its argument of a number, from 0, as it begins, if it is live there; whether this one is a leaf, which
+-- calls no function, so that its way back stays in register 1; and whether items are marked, which then have a word each, also those
+-- for which nothing is to be done, but for labels and `nop`.
 pub record FunctionHomes : Type 0 where
   pub home : Slot → Home
   pub saved : ℕ → Slot → Bool

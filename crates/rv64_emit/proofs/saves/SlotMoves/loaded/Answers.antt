@@ -9,6 +9,6 @@ returns-clause-moves c = opening_near (homes_in c.args.homes.now) c.args.func.no
 pub returns-clause-ready : goal.returns-clause-ready
 returns-clause-ready c = record {
   reached = first_hold c.args.func.now.slots c.near_slots.result.now c.near_slots.ensures (λ slot. IsReached ((homes_in c.args.homes.now).home slot)) c.requires.reached;
-  meant = λ _. tt;
+  meant = tt;
   words = first_few c.args.func.now.slots c.near_slots.result.now c.near_slots.ensures;
 }

@@ -10,6 +10,6 @@ returns-clause-moves c = call_near (homes_in c.args.homes.now) c.args.func.now c
 pub returns-clause-ready : goal.returns-clause-ready
 returns-clause-ready c = record {
   reached = first_hold c.args.func.now.slots c.near_slots.result.now c.near_slots.ensures (λ slot. IsReached ((homes_in c.args.homes.now).home slot)) c.requires.slots.reached;
-  meant = λ _. omega (arith, c.requires.small);
+  meant = omega (arith, c.requires.small);
   words = first_few c.args.func.now.slots c.near_slots.result.now c.near_slots.ensures;
 }
