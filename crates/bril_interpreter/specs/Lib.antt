@@ -1,4 +1,5 @@
 pub mod Arrivals
+pub mod Entries
 pub mod StepAnswers
 pub mod Frames
 pub mod Interpreter

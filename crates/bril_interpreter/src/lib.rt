@@ -1,7 +1,7 @@
 //! The interpreter: a program runs by its semantics. Each step is exactly the step of the semantics, and the output gets
 //! exactly what it prints.
 //!
-//! 1. The state of a run (`src/interp.rt`): frames (`src/frame.rt`), locals (`src/locals.rt`), saves (`src/saves.rt`), operands
+//! 1. The state of a run (`src/interp.rt`): frames (`src/frame.rt`), locals (`src/locals.rt`, `src/entry.rt`), saves (`src/saves.rt`), operands
 //!    (`src/operand.rt`), what a program has under a number (`src/lookup.rt`), and what is kept of a function: its quick items, the
 //!    points of its labels, looked up once, how often its guards failed, and what its variables hold at first (`src/table.rt`).
 //! 2. Steps and runs (`src/step.rt`), with a file for each group of operations (`src/actions.rt`, `src/calls.rt`,
@@ -14,6 +14,7 @@ mod actions;
 mod answer;
 mod calls;
 mod counting;
+mod entry;
 mod frame;
 mod interp;
 mod locals;

@@ -3,8 +3,8 @@
 ghost use Rattle.std.specs.Prelude.{◌≡◌, ◌<◌, ◌≤◌, [], ◌∷◌, length, take, OnOk, OnErr};
 ghost use Rattle.bril_interpreter.specs.Frames.{without_newest, newest_or};
 
+use crate::entry::Entry;
 use crate::locals::Locals;
-use bril_tree::value::Value;
 use std::alloc::{AllocError, Global};
 use std::marker::Model;
 use std::mem;
@@ -71,11 +71,7 @@ impl Saves {
     // What variables and shadows hold becomes the newest save. Nothing changes where memory is wanting. It is no part of the loop of
     // quick steps, which has no registers to spare.
     #[inline(never)]
-    pub fn save(
-        &mut self,
-        vars: &[Option<Value>],
-        shadows: &[Option<Value>],
-    ) -> Result<(), AllocError>
+    pub fn save(&mut self, vars: &[Entry], shadows: &[Entry]) -> Result<(), AllocError>
         ensures ok { OnOk result (self.new ≡ (record { vars = vars.now; shadows = shadows.now }) ∷ self.old) }
         ensures err { OnErr result (self.new ≡ self.old) }
     {
