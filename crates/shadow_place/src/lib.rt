@@ -1,5 +1,5 @@
-//! Homes for the locations of a program while the machine runs it, and which of them the speculation of each `speculate` saves.
-//! Both keep what `placement_laws` asks.
+//! Homes for the locations of a program while the machine runs it, and which of them speculations save. Both keep what
+//! `placement_laws` asks.
 //!
 //! 1. The home of each location is a register or its own word of the frame (`src/registers.rt`, `src/homes.rt`). A function
 //!    that has no more locations than there are registers gives each of them one; in any other, locations share a register
