@@ -59,6 +59,17 @@ impl Entry {
         }
     }
 
+    // The same where a value was assigned, and the int 0 elsewhere.
+    #[inline(always)]
+    pub fn or_zero(&self) -> Entry
+        ensures { result ≡ Some (unwrap_or self.now (Int (pos 0))) }
+    {
+        match self.held {
+            Held::Nothing => Entry::of(Value::Int(0)),
+            _ => *self,
+        }
+    }
+
     // The value, where one was assigned.
     pub fn value(&self) -> Option<Value>
         ensures { result ≡ self.now }
