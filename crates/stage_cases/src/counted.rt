@@ -94,8 +94,10 @@ fn add_counts(
 ) -> Result<(), AllocError> {
     let slots = lowered.slots.as_slice();
     add_homes(alloc, placed, slots, shown)?;
-    for point in 0..lowered.code.as_slice().len() {
-        add_saved(alloc, placed, slots, point as u32, shown)?;
+    let mut point = 0u32;
+    for _item in lowered.code.as_slice() {
+        add_saved(alloc, placed, slots, point, shown)?;
+        point = point.saturating_add(1);
     }
     Ok(())
 }

@@ -51,8 +51,10 @@ fn add_slots(
     for slot in slots {
         add_home(alloc, placed, vars, *slot, shown)?;
     }
-    for point in 0..lowered.code.as_slice().len() {
-        add_site(alloc, placed, vars, slots, point as u32, shown)?;
+    let mut point = 0u32;
+    for _item in lowered.code.as_slice() {
+        add_site(alloc, placed, vars, slots, point, shown)?;
+        point = point.saturating_add(1);
     }
     Ok(())
 }
