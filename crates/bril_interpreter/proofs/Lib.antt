@@ -1,8 +1,12 @@
+pub mod Entered
+pub mod Fronts
 pub mod Held
 pub mod RanQuickly
 pub mod RunsCounting
 pub mod RunsQuickly
+pub mod Joining
 pub mod Known
+pub mod Leaps
 pub mod Lines
 pub mod Plain
 pub mod Printed

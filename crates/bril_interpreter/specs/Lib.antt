@@ -2,6 +2,7 @@ pub mod Arrivals
 pub mod Entries
 pub mod StepAnswers
 pub mod Frames
+pub mod Joined
 pub mod Interpreter
 pub mod Line
 pub mod Quick

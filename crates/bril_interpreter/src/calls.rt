@@ -1,63 +1,15 @@
 // Calls and returns.
 
-ghost use Rattle.std.specs.Prelude.{◌≡◌, ◌<◌, suc, true, nat_lt, length, IfOk, OnOk, OnErr};
-ghost use Rattle.std.specs.Vec.{vec_len, vec_capacity};
+ghost use Rattle.std.specs.Prelude.{◌≡◌, suc, true, nat_lt, length, IfSome, OnOk, OnErr};
 ghost use Rattle.bril_tree.specs.Operand.{dest_of};
 
-use crate::frame::Frame;
 use crate::interp::Interp;
-use crate::locals::Locals;
+use crate::quick::Quick;
 use crate::table::{blank_of, shades_in};
 use bril_tree::limits::{End, Fault};
 use bril_tree::numbered::Instr;
 use bril_tree::value::Value;
-use std::alloc::{AllocError, Global};
-use std::mem;
-
-// Keeps a frame for a later call, where there is room. Takes no memory.
-fn keep_frame(returned: &mut Vec<Frame>, frame: Frame) {
-    if returned.len() < returned.capacity() {
-        returned.push_reserved(frame);
-    }
-}
-
-// Room for a frame more among these.
-#[inline(always)]
-fn make_room(older: &mut Vec<Frame>, returned: &mut Vec<Frame>) -> Result<(), AllocError>
-    ensures older { older.new.items ≡ older.old.items }
-    ensures room { OnOk result (vec_len older.new < vec_capacity older.new) }
-{
-    if older.len() < older.capacity() {
-        Ok(())
-    } else {
-        grow(older, returned)
-    }
-}
-
-// More room than there is, and as much for those that return.
-#[inline(never)]
-fn grow(older: &mut Vec<Frame>, returned: &mut Vec<Frame>) -> Result<(), AllocError>
-    ensures older { older.new.items ≡ older.old.items }
-    ensures room { OnOk result (vec_len older.new < vec_capacity older.new) }
-{
-    older.reserve(1)?;
-    returned.reserve(older.capacity())
-}
-
-// A frame that holds nothing.
-#[inline(never)]
-fn empty_frame(alloc: Global) -> Result<Frame, AllocError> {
-    Frame::start(alloc, 0, Locals::none(alloc))
-}
-
-// A frame for a call, whatever it holds.
-#[inline(always)]
-fn spare_frame(returned: &mut Vec<Frame>, alloc: Global) -> Result<Frame, AllocError> {
-    match returned.pop() {
-        Some(used) => Ok(used),
-        None => empty_frame(alloc),
-    }
-}
+use std::alloc::AllocError;
 
 // The destination of an item, where it has one.
 fn dest_in(item: &Instr) -> Option<u32>
@@ -71,11 +23,11 @@ fn dest_in(item: &Instr) -> Option<u32>
 }
 
 impl<'a> Interp<'a> {
-    ghost use Rattle.bril_tree.specs.Step.{calls, new_frame, returns, ends, awaited};
+    ghost use Rattle.bril_tree.specs.State.{read};
+    ghost use Rattle.bril_tree.specs.Step.{calls, returns, ends, awaited};
     ghost use Rattle.bril_tree.specs.Memory.{is_live_any};
-    ghost use Rattle.bril_interpreter.specs.Frames.{frame_of, IsFrame};
     ghost use Rattle.bril_interpreter.specs.Interpreter.{state_of, under};
-    ghost use Rattle.bril_interpreter.specs.Steps.{older_of, values_in, item_of, IsAtItem, HasDest, Did, Makes};
+    ghost use Rattle.bril_interpreter.specs.Steps.{newest_of, older_of, values_in, item_of, Awaits, IsAtItem, HasDest, Did, Makes};
 
     // A frame more, where the limit allows it. Memory is wanting only where it does, and then nothing changes.
     #[inline(always)]
@@ -85,46 +37,68 @@ impl<'a> Interp<'a> {
         ensures room { OnErr result (nat_lt (suc (length (older_of self.old))) self.old.limits.frames ≡ true) }
         ensures err { OnErr result (self.new ≡ self.old) }
     {
-        if self.limits.frames as usize <= self.older.len() + 1 {
+        if !self.has_room() {
             self.fault(Fault::Frames);
             return Ok(());
         }
-        let frame = self.new_frame(callee, args)?;
-        make_room(&mut self.older, &mut self.returned)?;
-        let caller = mem::replace(&mut self.newest, frame);
-        self.older.push_reserved(caller);
+        Ok(self.enter(callee, args)?)
+    }
+
+    // Whether the limit allows a frame more.
+    #[inline(always)]
+    pub(crate) fn has_room(&self) -> bool
+        ensures { result ≡ nat_lt (suc (length (older_of self.now))) self.now.limits.frames }
+    {
+        self.older.count() + 1 < self.limits.frames as usize
+    }
+
+    // A frame more, which the limit allows. Nothing changes where memory is wanting.
+    #[inline(always)]
+    pub(crate) fn enter(&mut self, callee: u32, args: &[u32]) -> Result<(), AllocError>
+        requires item { IsAtItem self.old }
+        requires room { nat_lt (suc (length (older_of self.old))) self.old.limits.frames ≡ true }
+        ensures ok { OnOk result (Makes self.old (under self.old calls callee (values_in self.old args.now)) self.new) }
+        ensures err { OnErr result (self.new ≡ self.old) }
+    {
+        let tables = self.tables.as_slice();
+        let variables = blank_of(tables, callee).len();
+        let shades = shades_in(tables, callee);
+        self.older
+            .call(&mut self.newest, callee, args, variables, shades)?;
         Ok(())
     }
 
-    // The frame of a call, with the values of these variables.
-    #[inline(always)]
-    fn new_frame(&mut self, callee: u32, args: &[u32]) -> Result<Frame, AllocError>
-        ensures same { self.new ≡ self.old }
-        ensures frame { IfOk result (λ frame. frame_of frame ≡ new_frame callee (values_in self.old args.now)) }
-        ensures form { IfOk result (λ frame. IsFrame self.old.checked.prog frame) }
-    {
-        let alloc = *self.older.allocator();
-        let mut frame = spare_frame(&mut self.returned, alloc)?;
-        let tables = self.tables.as_slice();
-        let blank = blank_of(tables, callee);
-        let shades = shades_in(tables, callee);
-        frame.renew(callee, self.newest.locations(), args, blank, shades)?;
-        Ok(frame)
-    }
-
     // The newest frame is popped, and its value goes to the call at which its caller stands.
-    #[inline(always)]
     pub(crate) fn return_value(&mut self, value: Value)
         ensures { Did self.old (under self.old returns value (older_of self.old) (state_of self.old)) self.new }
     {
-        match self.older.pop() {
-            None => self.finish(),
-            Some(caller) => {
-                let done = mem::replace(&mut self.newest, caller);
-                keep_frame(&mut self.returned, done);
-                let dest = self.awaited();
-                self.give(dest, value);
-            }
+        if self.older.go_back(&mut self.newest) {
+            let dest = self.awaited();
+            self.give(dest, value);
+        } else {
+            self.finish();
+        }
+    }
+
+    // The newest frame is popped, and what is read of its variable goes to the call at which its caller stands.
+    #[inline(always)]
+    pub(crate) fn give_back(&mut self, x: u32, dest: u32)
+        requires { Awaits self.old dest }
+        ensures { Did self.old (under self.old returns (read (newest_of self.old).locations.vars x) (older_of self.old) (state_of self.old)) self.new }
+    {
+        self.older.give_back(&mut self.newest, x, dest);
+    }
+
+    // The destination of the call at which the newest caller stands, where it is found among the quick items.
+    #[inline(always)]
+    pub(crate) fn awaited_quickly(&self) -> Option<u32>
+        ensures { IfSome result (λ dest. Awaits self.now dest) }
+    {
+        let caller = self.older.newest()?;
+        let table = self.tables.get(caller.function() as usize)?;
+        match table.quick().get(caller.point()) {
+            Some(Quick::Call { dest, .. }) => *dest,
+            _ => None,
         }
     }
 

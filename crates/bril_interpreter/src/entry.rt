@@ -1,6 +1,6 @@
 // What a variable or a shadow of a frame holds, in as much room as a value takes.
 
-ghost use Rattle.std.specs.Prelude.{◌≡◌, pos, unwrap_or, None, Some};
+ghost use Rattle.std.specs.Prelude.{◌≡◌, pos, unwrap_or, None, Some, IfSome};
 ghost use Rattle.bril_tree.specs.declared.value.Value.TheVariants.{Int};
 
 use bril_tree::value::Value;
@@ -94,6 +94,48 @@ impl Entry {
             Held::Bool(truth) => Value::Bool(truth),
             Held::Char(letter) => Value::Char(letter),
             Held::Ptr { block, offset } => Value::Ptr { block, offset },
+        }
+    }
+
+    // The value, where it is an int.
+    #[inline(always)]
+    pub fn int(&self) -> Option<Value>
+        ensures { IfSome result (λ value. self.now ≡ Some value) }
+    {
+        match self.held {
+            Held::Int(number) => Some(Value::Int(number)),
+            _ => None,
+        }
+    }
+
+    // The same of a bool, a char and a pointer.
+    #[inline(always)]
+    pub fn bool(&self) -> Option<Value>
+        ensures { IfSome result (λ value. self.now ≡ Some value) }
+    {
+        match self.held {
+            Held::Bool(truth) => Some(Value::Bool(truth)),
+            _ => None,
+        }
+    }
+
+    #[inline(always)]
+    pub fn char(&self) -> Option<Value>
+        ensures { IfSome result (λ value. self.now ≡ Some value) }
+    {
+        match self.held {
+            Held::Char(letter) => Some(Value::Char(letter)),
+            _ => None,
+        }
+    }
+
+    #[inline(always)]
+    pub fn pointer(&self) -> Option<Value>
+        ensures { IfSome result (λ value. self.now ≡ Some value) }
+    {
+        match self.held {
+            Held::Ptr { block, offset } => Some(Value::Ptr { block, offset }),
+            _ => None,
         }
     }
 }

@@ -5,6 +5,7 @@ ghost use Rattle.std.specs.Option.{option_map};
 ghost use Rattle.bril_tree.specs.Run.{FitMain, first_state};
 
 use crate::answer::Here;
+use crate::callers::Callers;
 use crate::frame::Frame;
 use crate::locals::Locals;
 use crate::lookup::{items_of, variables_of};
@@ -25,17 +26,15 @@ pub struct Interp<'a> {
     pub(crate) checked: &'a Checked,
     pub(crate) limits: Limits,
     pub(crate) newest: Frame,
-    pub(crate) older: Vec<Frame>,
+    pub(crate) older: Callers,
     pub(crate) cells: Cells,
     pub(crate) ended: Option<End>,
     pub(crate) tables: Vec<Table>,
-    // The frames of calls that returned, for later calls.
-    pub(crate) returned: Vec<Frame>,
     pub(crate) failed: bool,
 }
 
 impl<'a> Model for Interp<'a> {
-    ghost use Rattle.std.specs.Prelude.{map, reverse};
+    ghost use Rattle.std.specs.Prelude.{map};
     ghost use Rattle.bril_interpreter.specs.Interpreter.{InterpView, IsInterp};
 
     ghost Value = { InterpView };
@@ -44,14 +43,14 @@ impl<'a> Model for Interp<'a> {
       checked = i.checked.now;
       limits = i.limits;
       newest = i.newest;
-      older = reverse i.older.items;
+      older = i.older;
       cells = i.cells;
       ended = i.ended;
       failures = map (λ t. t.failures) i.tables.items;
       has_failed = i.failed;
     } };
 
-    ghost invariant = { λ i. IsInterp i.checked.now.prog i.limits i.newest (reverse i.older.items) i.cells i.tables.items };
+    ghost invariant = { λ i. IsInterp i.checked.now.prog i.limits i.newest i.older i.cells i.tables.items };
 }
 
 impl<'a> Interp<'a> {
@@ -85,11 +84,10 @@ impl<'a> Interp<'a> {
             checked: prog,
             limits,
             newest,
-            older: Vec::new(alloc),
+            older: Callers::none(alloc),
             cells: Cells::new(alloc, limits.cells),
             ended: None,
             tables,
-            returned: Vec::new(alloc),
             failed: false,
         })
     }
