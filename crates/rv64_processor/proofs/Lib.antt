@@ -1,3 +1,4 @@
+pub mod Cells
 pub mod Moving
 pub mod Pointers
 pub mod Regions

@@ -67,8 +67,8 @@ impl Region {
         self.words[k] = value;
     }
 
-    // Holds the words up to this one: those that weren't written are 0.
-    fn fill(&mut self, k: usize)
+    /// Holds the words up to this one: those that weren't written are 0.
+    pub(crate) fn fill(&mut self, k: usize)
         requires { k < size_in self.old }
         ensures held { k < written_in self.new }
         ensures words { words_in self.new ≡ words_in self.old }
@@ -127,6 +127,7 @@ impl Region {
         requires { k < written_in self.old }
         ensures words { words_in self.new ≡ assigned (words_in self.old) k value }
         ensures size { size_in self.new ≡ size_in self.old }
+        ensures written { written_in self.new ≡ written_in self.old }
     {
         self.words[k] = value;
     }
